@@ -11,9 +11,9 @@ use Rattle.run_settings.specs.declared.config.Show.TheVariants.{Failures}
 use Rattle.run_settings.specs.Settings.{Settings}
 use Rattle.deb_causes.specs.Causes.{CauseView}
 use Rattle.deb_report.specs.declared.summary.Counts.{Counts}
-use Rattle.deb_report.specs.Outcome.{broken_ones, is_shown, numbers_of, shown_of, summary_with}
-use Rattle.deb_report.specs.Since.{BrokenView, amends_of, counts_of, is_news, news_of}
-use Rattle.deb_report.specs.Content.{causes_if, content_of}
+use Rattle.deb_report.specs.Outcome.{broken_ones, is_shown}
+use Rattle.deb_report.specs.Since.{BrokenView, counts_of, is_news, news_of}
+use Rattle.deb_report.specs.Content.{blocks_of, causes_if, content_of, lists_of}
 
 -- ---- what is counted
 
@@ -24,9 +24,6 @@ module _ (index : IndexView) (asked : List ℕ) (told : List ToldView) where
   -- as many are listed as are broken
   listed-broken : (broken : List Shown) → map shown_view broken ≡ broken_ones asked told → length broken ≡ length (broken_ones asked told)
   listed-broken broken are = sym (length-map broken shown_view) ∙ ap length are
-
-  pub counts-alone : (broken : List Shown) → map shown_view broken ≡ broken_ones asked told → counted (length asked) (length broken) None ≡ counts_of index asked told None
-  counts-alone broken are = ap (λ (count : ℕ). counted (length asked) count None) (listed-broken broken are)
 
   pub counts-since : (before : List BrokenView) (broken news : List Shown) → map shown_view broken ≡ broken_ones asked told
       → map shown_view news ≡ filter (is_news index before) (map shown_view broken) → counted (length asked) (length broken) (Some (length news)) ≡ counts_of index asked told (Some before)
@@ -59,16 +56,14 @@ module _ (index : IndexView) (asked : List ℕ) (told : List ToldView) where
 
   -- ---- what is told
 
-  pub content-is : (settings : Settings) (blocks broken : List (ℕ × ToldView)) (counts : Counts) (numbers : List (List ℕ × ℕ)) (causes : Option (List CauseView))
-      → blocks ≡ shown_of settings.show asked told → broken ≡ broken_ones asked told → counts ≡ counts_of index asked told None
-      → numbers ≡ numbers_of settings.background (summary_with index counts) → causes ≡ causes_if settings.causes index broken
-      → record { blocks = blocks; numbers = numbers; lists = []; causes = causes } ≡ content_of settings index asked told None
-  content-is settings blocks broken counts numbers causes shown are count number cause = rw (cause, number, count, are, shown) refl
-
-  pub since-is : (settings : Settings) (blocks broken : List (ℕ × ToldView)) (before : List BrokenView) (counts : Counts) (numbers : List (List ℕ × ℕ))
-      (lists : List (List ℕ × List BrokenView)) (causes : Option (List CauseView)) → broken ≡ broken_ones asked told → blocks ≡ filter (is_news index before) broken
-      → counts ≡ counts_of index asked told (Some before) → numbers ≡ numbers_of settings.background (summary_with index counts)
-      → lists ≡ amends_of index asked broken before → causes ≡ causes_if settings.causes index blocks
-      → record { blocks = blocks; numbers = numbers; lists = lists; causes = causes } ≡ content_of settings index asked told (Some before)
+  pub news-are : (before : List BrokenView) (broken news : List (ℕ × ToldView)) → broken ≡ broken_ones asked told → news ≡ filter (is_news index before) broken
+      → news ≡ news_of index asked told before
   unfolding news_of
-  since-is settings blocks broken before counts numbers lists causes are new count number list cause = rw (cause, list, number, count, new, are) refl
+  news-are before broken news are new = new ∙ ap (filter (is_news index before)) are
+
+  pub content-is : (settings : Settings) (before : Option (List BrokenView)) (blocks caused : List (ℕ × ToldView)) (counts : Counts)
+      (lists : List (List ℕ × List BrokenView)) (causes : Option (List CauseView)) → blocks ≡ blocks_of settings.show index asked told before
+      → caused ≡ blocks_of Failures index asked told before → counts ≡ counts_of index asked told before → lists ≡ lists_of index asked told before
+      → causes ≡ causes_if settings.causes index caused
+      → record { blocks = blocks; counts = counts; lists = lists; causes = causes } ≡ content_of settings index asked told before
+  content-is settings before blocks caused counts lists causes shown are count list cause = rw (cause, list, count, are, shown) refl

@@ -4,9 +4,9 @@ use Rattle.std.specs.List.{flat_map}
 use Rattle.deb_index.specs.declared.constraint.Constraint.{Constraint}
 use Rattle.deb_index.specs.Packages.{IndexView, package_at}
 use Rattle.deb_health.specs.Verdicts.{ToldView, Installable, Found, Blocked}
-use Rattle.deb_report.specs.Outcome.{status_of}
+use Rattle.deb_report.specs.Outcome.{numbers_of, status_of, summary_with}
 use Rattle.deb_report.specs.Since.{BrokenView}
-use Rattle.deb_report.specs.Forms.{OfPackage, block_end, elements_in, item_end, item_in, list_in, number_in, quoted, string_in, title_in}
+use Rattle.deb_report.specs.Forms.{OfPackage, block_end, each_in, elements_in, item_end, item_in, list_in, number_in, one_of, quoted, string_in, title_in}
 use Rattle.deb_report.specs.WalkLines.{links_in, walk_lines}
 use Rattle.deb_report.specs.Reasons.{place_in, reason_front}
 use Rattle.deb_report.specs.declared.form.Lead.TheVariants.{Block, Other, Tall, Within}
@@ -19,57 +19,48 @@ use Rattle.run_settings.specs.declared.config.Format.TheVariants.{Json, Text}
 -- ---- blocks
 
 -- a constraint of a core, with where a walk goes on from it
-unfoldable pub told_in : Format → IndexView → Settings → Constraint → List ℕ
-told_in form index settings constraint = reason_front form index constraint ++ (if settings.why then links_in form index constraint else []) ++ item_end form
+unfoldable pub told_in : IndexView → Settings → Constraint → List ℕ
+told_in index settings constraint = reason_front settings.format index constraint
+    ++ (if settings.why then links_in settings.format index constraint else []) ++ item_end settings.format
 
 -- lines tell a walk as it goes
 abbrev pub is_walked : Format → Bool → Bool
 is_walked Text why = why
 is_walked Json why = false
 
--- a core of the package at a place, under a title
-unfoldable pub core_in : Format → IndexView → Settings → ℕ → List ℕ → List Constraint → List ℕ
-core_in form index settings place title core =
-    if is_walked form settings.why then title_in form Within title ++ codes "\n" ++ walk_lines index place core
-    else list_in form Within title (told_in form index settings) core
+-- a core of the package at a place
+unfoldable pub core_in : IndexView → Settings → ℕ → List Constraint → List ℕ
+core_in index settings place core = if is_walked settings.format settings.why then codes "\n" ++ walk_lines index place core
+    else elements_in settings.format Within (told_in index settings) core
 
 -- the title of the first core
 abbrev pub first_title : Bool → List ℕ
 first_title walked = if walked then codes "why" else codes "reasons"
 
--- a core behind the first
-unfoldable pub later_core : Format → IndexView → Settings → ℕ → List Constraint → List ℕ
-later_core Text index settings place core = core_in Text index settings place (codes "also") core
-later_core Json index settings place core = elements_in Json Within (told_in Json index settings) core
+-- those behind the first, or how many they are
+unfoldable pub later_in : IndexView → Settings → ℕ → List (List Constraint) → List ℕ
+later_in index settings place later = if settings.all_reasons then each_in settings.format (codes "also") (core_in index settings place) later
+    else if length later == 0 then [] else number_in settings.format Within (codes "further") (length later)
 
--- those behind the first
-unfoldable pub later_cores : Format → IndexView → Settings → ℕ → List (List Constraint) → List ℕ
-later_cores Text index settings place later = flat_map (later_core Text index settings place) later
-later_cores Json index settings place later = list_in Json Within (codes "also") (later_core Json index settings place) later
-
--- how many there are behind the first
-unfoldable pub further_in : Format → ℕ → List ℕ
-further_in form count = if count == 0 then [] else number_in form Within (codes "further") count
-
--- the first core of the package at a place, and those behind it, or how many they are
-unfoldable pub all_cores : Format → IndexView → Settings → ℕ → List (List Constraint) → List ℕ
-all_cores form index settings place [] = []
-all_cores form index settings place (core ∷ later) = core_in form index settings place (first_title (is_walked form settings.why)) core
-    ++ (if settings.all_reasons then later_cores form index settings place later else further_in form (length later))
+-- the first core of the package at a place, and those behind it
+unfoldable pub all_cores : IndexView → Settings → ℕ → List (List Constraint) → List ℕ
+all_cores index settings place [] = []
+all_cores index settings place (core ∷ later) = title_in settings.format Within (first_title (is_walked settings.format settings.why))
+    ++ core_in index settings place core ++ later_in index settings place later
 
 -- the set that was found, or what stands against each set
-unfoldable pub explanation_in : Format → IndexView → Settings → ℕ × ToldView → List ℕ
-explanation_in form index settings (place, Installable) = []
-explanation_in form index settings (place, Found places) = list_in form Within (codes "installation-set") (place_in form index) places
-explanation_in form index settings (place, Blocked cores) = all_cores form index settings place cores
+unfoldable pub explanation_in : IndexView → Settings → ℕ × ToldView → List ℕ
+explanation_in index settings (place, Installable) = []
+explanation_in index settings (place, Found places) = list_in settings.format Within (codes "installation-set") (place_in settings.format index) places
+explanation_in index settings (place, Blocked cores) = all_cores index settings place cores
 
 -- an asked place and what is told of it
-unfoldable pub block_in : Format → IndexView → Settings → ℕ × ToldView → List ℕ
-block_in form index settings asked = let deb = package_at index asked.0 in string_in form Block (codes "package") deb.name
+unfoldable pub block_in : IndexView → Settings → ℕ × ToldView → List ℕ
+block_in index settings asked = let form = settings.format in let deb = package_at index asked.0 in string_in form Block (codes "package") deb.name
     ++ string_in form Within (codes "version") deb.version
     ++ string_in form Within (codes "architecture") deb.architecture
     ++ string_in form Within (codes "status") (status_of asked.1)
-    ++ (if settings.explain then explanation_in form index settings asked else [])
+    ++ (if settings.explain then explanation_in index settings asked else [])
     ++ block_end form
 
 -- ---- the whole
@@ -91,16 +82,15 @@ unfoldable pub head_in : Format → List (List ℕ) → List ℕ
 head_in Text options = []
 head_in Json options = codes "{\"format\":2" ++ list_in Json Other (codes "options") quoted options
 
-unfoldable pub report_end : Format → List ℕ
-report_end Text = []
-report_end Json = codes "}\n"
+abbrev pub report_end : Format → List ℕ
+report_end form = one_of form [] (codes "}\n")
 
 -- the report: its head, the blocks, the numbers, the lists, the causes
-unfoldable pub text_under : List (List ℕ) → Format → IndexView → Settings → ContentView → List ℕ
-text_under options form index settings content = head_in form options
+unfoldable pub text_under : List (List ℕ) → IndexView → Settings → ContentView → List ℕ
+text_under options index settings content = let form = settings.format in head_in form options
     ++ string_in form Other (codes "architecture") index.arch
-    ++ list_in form Tall (codes "report") (block_in form index settings) content.blocks
-    ++ flat_map (counted_in form) content.numbers
+    ++ list_in form Tall (codes "report") (block_in index settings) content.blocks
+    ++ flat_map (counted_in form) (numbers_of settings.background (summary_with index content.counts))
     ++ flat_map (amended_in form) content.lists
     ++ causes_in form index content.causes
     ++ report_end form
@@ -108,7 +98,7 @@ text_under options form index settings content = head_in form options
 -- what is written of the asked places, since these packages were broken, where an earlier index is read
 abbrev pub written_told : Settings → IndexView → List ℕ → List ToldView → Option (List BrokenView) → List ℕ
 written_told settings index asked told before =
-    text_under (options_of settings (is_some before)) settings.format index settings (content_of settings index asked told before)
+    text_under (options_of settings (is_some before)) index settings (content_of settings index asked told before)
 
 -- of the verdicts alone
 abbrev pub written_report : Settings → IndexView → List ℕ → List ToldView → List ℕ

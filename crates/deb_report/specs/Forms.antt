@@ -33,6 +33,11 @@ member title text = codes "\"" ++ title ++ codes "\":" ++ quoted text
 
 -- ---- members of a report and of its blocks
 
+-- the text of the form
+abbrev pub one_of : Format → List ℕ → List ℕ → List ℕ
+one_of Text line json = line
+one_of Json line json = json
+
 -- what stands before a member, by its place: one of the report, one that has blocks; the first of a block, another
 unfoldable pub lead_of : Format → Lead → List ℕ
 lead_of Text Block = codes " -\n  "
@@ -78,10 +83,14 @@ leaves_out Json count = false
 unfoldable pub some_in : {A : Type 0} → Format → List ℕ → (A → List ℕ) → List A → List ℕ
 some_in form title text elements = if leaves_out form (length elements) then [] else list_in form Within title text elements
 
+-- texts of elements that are several lines: the title stands before each of them, and in JSON before the array
+unfoldable pub each_in : {A : Type 0} → Format → List ℕ → (A → List ℕ) → List A → List ℕ
+each_in Text title text elements = flat_map (λ element. title_in Text Within title ++ text element) elements
+each_in Json title text elements = list_in Json Within title text elements
+
 -- what ends a block
-unfoldable pub block_end : Format → List ℕ
-block_end Text = []
-block_end Json = codes "}"
+abbrev pub block_end : Format → List ℕ
+block_end form = one_of form [] (codes "}")
 
 -- ---- items of a list
 
@@ -117,9 +126,8 @@ unfoldable pub item_front : Format → Lead → List PartView → List ℕ
 item_front Text lead parts = lead_of Text lead ++ codes " - " ++ flat_map part_line parts
 item_front Json lead parts = codes "{" ++ join_by part_json (codes ",") parts
 
-unfoldable pub item_end : Format → List ℕ
-item_end Text = codes "\n"
-item_end Json = codes "}"
+abbrev pub item_end : Format → List ℕ
+item_end form = one_of form (codes "\n") (codes "}")
 
 abbrev pub item_in : Format → Lead → List PartView → List ℕ
 item_in form lead parts = item_front form lead parts ++ item_end form

@@ -55,6 +55,3 @@ reason_parts index (Only name) = OfKind (codes "versions") ∷ OfName (name_at i
 
 abbrev pub reason_front : Format → IndexView → Constraint → List ℕ
 reason_front form index constraint = item_front form Within (reason_parts index constraint)
-
-abbrev pub reason_in : Format → IndexView → Constraint → List ℕ
-reason_in form index constraint = item_in form Within (reason_parts index constraint)

@@ -2,7 +2,7 @@
 
 ghost use Rattle.std.specs.Prelude.{◌≡◌, ◌<◌, ◌&&◌, All, IfOk, filter, length, map, not};
 ghost use Rattle.deb_index.specs.Packages.{names};
-ghost use Rattle.deb_report.specs.Since.{AreMarks, amends_of, amends_view, broken_view, has_named, is_gone, is_mended, mark_of};
+ghost use Rattle.deb_report.specs.Since.{amends_of, amends_view, broken_view, is_gone, is_mended, mark_of};
 ghost use Rattle.deb_health.specs.Verdicts.{IsAskedOf, shown_view};
 
 use crate::asked::is_unknown;
@@ -18,15 +18,6 @@ use std::alloc::{AllocError, Global};
 pub struct Amends<'b> {
     pub title: &'static str,
     pub packages: Vec<&'b BrokenPackage>,
-}
-
-/// Marks on the names of asked packages.
-fn marks_shown(alloc: Global, index: &Index, shown: &[Shown<'_>]) -> Result<Vec<bool>, AllocError>
-    requires { All (λ one. IsAskedOf index.now (shown_view one)) shown.now }
-    ensures { IfOk result (λ marks. AreMarks index.now (has_named index.now (map (λ one. one.0) (map shown_view shown.now))) marks.items) }
-{
-    let places = places_of(alloc, shown)?;
-    marks_at(alloc, index, places.as_slice())
 }
 
 /// Whether a package of this one's name is asked, and none that is broken, as marks of their names tell.
@@ -55,7 +46,8 @@ fn mended_of<'b>(
         filter (is_mended index.now asked.now (map shown_view broken.now)) (map broken_view before.now)) }
 {
     let asked_marks = marks_at(alloc, index, asked)?;
-    let broken_marks = marks_shown(alloc, index, broken)?;
+    let places = places_of(alloc, broken)?;
+    let broken_marks = marks_at(alloc, index, places.as_slice())?;
     let asked_names = asked_marks.as_slice();
     let broken_names = broken_marks.as_slice();
     let mut mended = Vec::new(alloc);

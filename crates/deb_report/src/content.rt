@@ -4,14 +4,13 @@ ghost use Rattle.std.specs.Prelude.{◌≡◌, ◌<◌, All, IfOk, IfSome, lengt
 ghost use Rattle.std.specs.Option.{ForSome, option_map};
 ghost use Rattle.deb_health.specs.Verdicts.{IsAskedOf, shown_view, SpeaksOf, told_view};
 ghost use Rattle.deb_causes.specs.Causes.{IsCauseOf, cause_view};
-ghost use Rattle.deb_report.specs.Since.{counts_of};
 ghost use Rattle.deb_report.specs.Content.{causes_if, content_of, IsContentOf, before_view, content_view};
 ghost use Rattle.run_settings.specs.Settings.{settings_of};
 
 use crate::amends::{Amends, amends_of};
 use crate::newly_broken::Before;
 use crate::shown::shown_of;
-use crate::summary::{Counts, numbers_of};
+use crate::summary::Counts;
 use deb_causes::{Cause, causes_of};
 use deb_health::{Shown, Told};
 use deb_index::Index;
@@ -24,7 +23,6 @@ pub(crate) struct Content<'r> {
     /// The asked places that have a block.
     pub(crate) blocks: Vec<Shown<'r>>,
     pub(crate) counts: Counts,
-    pub(crate) numbers: Vec<(&'static str, usize)>,
     /// What became of the packages that were broken in an earlier index; none where none is read.
     pub(crate) lists: Vec<Amends<'r>>,
     /// The causes, where they are asked for.
@@ -64,25 +62,22 @@ pub(crate) fn content_of<'r>(
     requires before { ForSome before (λ before. before.now.index.now ≡ index.now) }
     ensures content { IfOk result (λ content. content_view content ≡
         content_of (settings_of config.now) index.now asked.now (map told_view told.now) (before_view before.entry)) }
-    ensures counts { IfOk result (λ content. content.counts ≡ counts_of index.now asked.now (map told_view told.now) (before_view before.entry)) }
     ensures within { IfOk result (IsContentOf index.now) }
 {
     let failures = shown_of(alloc, asked, told, Show::Failures)?;
     let broken = failures.as_slice();
+    let counts = Counts {
+        asked: asked.len(),
+        broken: broken.len(),
+        newly_broken: None,
+    };
     match before {
         None => {
             let blocks = shown_of(alloc, asked, told, config.show)?;
             let causes = causes_if(alloc, index, broken, config.causes)?;
-            let counts = Counts {
-                asked: asked.len(),
-                broken: broken.len(),
-                newly_broken: None,
-            };
-            let numbers = numbers_of(alloc, index, counts, config.bg.is_some())?;
             Ok(Content {
                 blocks,
                 counts,
-                numbers,
                 lists: Vec::new(alloc),
                 causes,
             })
@@ -92,15 +87,12 @@ pub(crate) fn content_of<'r>(
             let lists = amends_of(alloc, index, asked, broken, before.packages)?;
             let causes = causes_if(alloc, index, news.as_slice(), config.causes)?;
             let counts = Counts {
-                asked: asked.len(),
-                broken: broken.len(),
                 newly_broken: Some(news.len()),
+                ..counts
             };
-            let numbers = numbers_of(alloc, index, counts, config.bg.is_some())?;
             Ok(Content {
                 blocks: news,
                 counts,
-                numbers,
                 lists,
                 causes,
             })

@@ -1,13 +1,16 @@
 //! How members, lists and items of a report are written in each form.
 
 ghost use Rattle.std.specs.Prelude.{◌≡◌, ◌++◌, All, OnOk, map};
-ghost use Rattle.deb_report.specs.Forms.{block_end, elements_in, end_of, lead_of, list_in, number_in, some_in, string_in, title_in, item_end, item_front, item_in, name_in, part_view};
+ghost use Rattle.run_settings.specs.declared.config.Format.TheVariants.{Text};
+ghost use Rattle.deb_report.specs.declared.form.Lead.TheVariants.{Within};
+ghost use Rattle.deb_report.specs.Forms.{each_in, elements_in, end_of, lead_of, list_in, number_in, some_in, string_in, title_in, item_front, item_in, name_in, one_of, part_view};
 
 use crate::json_text::push_quoted;
 use crate::parts::{InJson, InLine, Part};
+use deb_causes::Similar;
 use deb_index::Index;
 use deb_relation::{Print, push_all, push_joined, push_texts};
-use run_settings::Format;
+use run_settings::{Config, Format};
 use std::alloc::{AllocError, Global};
 
 /// Where a member stands.
@@ -50,6 +53,22 @@ fn end_of(lead: Lead) -> &'static str
         Lead::Tall => "\n]",
         Lead::Other | Lead::Block | Lead::Within => "]",
     }
+}
+
+/// Adds the text of the form: in lines, or in JSON.
+pub fn push_one_of(
+    format: Format,
+    out: &mut Vec<u8>,
+    line: &str,
+    json: &str,
+) -> Result<(), AllocError>
+    ensures { OnOk result (out.new.items ≡ out.old.items ++ one_of format line.now json.now) }
+{
+    match format {
+        Format::Text => out.extend_from_slice(line.as_bytes())?,
+        Format::Json => out.extend_from_slice(json.as_bytes())?,
+    }
+    Ok(())
 }
 
 /// Adds the title of a member.
@@ -132,12 +151,51 @@ pub fn push_some<T, P: Print<T>>(
     Ok(())
 }
 
-/// An index, whose packages and constraints are told in a form.
+/// Elements that are several lines, each under the title.
+#[derive(Drop)]
+struct Titled<'t, P> {
+    title: &'t str,
+    printer: &'t P,
+}
+
+impl<'t, T, P: Print<T>> Print<T> for Titled<'t, P> {
+    ghost fits = { λ titled element. P.fits titled.printer.now element };
+
+    ghost text = { λ titled element. title_in Text Within titled.title.now ++ P.text titled.printer.now element };
+
+    fn print(&self, out: &mut Vec<u8>, element: &T) -> Result<(), AllocError> {
+        push_title(Format::Text, out, Lead::Within, self.title)?;
+        self.printer.print(out, element)?;
+        Ok(())
+    }
+}
+
+/// Adds elements that are several lines: the title stands before each of them, and in JSON before the array.
+#[tactic(auto, unfolding(crate::specs::Forms::each_in))]
+pub fn push_each<T, P: Print<T>>(
+    format: Format,
+    out: &mut Vec<u8>,
+    title: &str,
+    printer: &P,
+    elements: &[T],
+) -> Result<(), AllocError>
+    requires { All (P.fits printer.now) elements.now }
+    ensures { OnOk result (out.new.items ≡ out.old.items ++ each_in format title.now (P.text printer.now) elements.now) }
+{
+    match format {
+        Format::Text => push_all(out, &Titled { title, printer }, elements)?,
+        Format::Json => push_list(format, out, Lead::Within, title, printer, elements)?,
+    }
+    Ok(())
+}
+
+/// What a report is written by: its index, what is asked of it, and the names that are told as similar.
 #[derive(Drop)]
 pub struct Writer<'i> {
     pub alloc: Global,
     pub index: &'i Index,
-    pub format: Format,
+    pub config: &'i Config,
+    pub similar: &'i Similar,
 }
 
 impl<'i> Writer<'i> {
@@ -150,12 +208,12 @@ impl<'i> Writer<'i> {
         title: &str,
         number: usize,
     ) -> Result<(), AllocError>
-        ensures { OnOk result (out.new.items ≡ out.old.items ++ number_in self.now.format lead title.now number) }
+        ensures { OnOk result (out.new.items ≡ out.old.items ++ number_in self.now.config.now.format lead title.now number) }
     {
         let digits = number.to_string(self.alloc)?;
         let digits = digits.as_str().as_bytes();
-        push_title(self.format, out, lead, title)?;
-        match self.format {
+        push_title(self.config.format, out, lead, title)?;
+        match self.config.format {
             Format::Text => push_texts(out, &[b" ", digits, b"\n"])?,
             Format::Json => out.extend_from_slice(digits)?,
         }
@@ -171,23 +229,12 @@ impl<'i> Writer<'i> {
         title: &str,
         text: &[u8],
     ) -> Result<(), AllocError>
-        ensures { OnOk result (out.new.items ≡ out.old.items ++ string_in self.now.format lead title.now text.now) }
+        ensures { OnOk result (out.new.items ≡ out.old.items ++ string_in self.now.config.now.format lead title.now text.now) }
     {
-        push_title(self.format, out, lead, title)?;
-        match self.format {
+        push_title(self.config.format, out, lead, title)?;
+        match self.config.format {
             Format::Text => push_texts(out, &[b" ", text, b"\n"])?,
             Format::Json => push_quoted(out, text)?,
-        }
-        Ok(())
-    }
-
-    /// Adds the end of a block.
-    #[tactic(auto, unfolding(crate::specs::Forms::block_end))]
-    pub fn push_block_end(&self, out: &mut Vec<u8>) -> Result<(), AllocError>
-        ensures { OnOk result (out.new.items ≡ out.old.items ++ block_end self.now.format) }
-    {
-        if self.format == Format::Json {
-            out.extend_from_slice(b"}")?;
         }
         Ok(())
     }
@@ -199,9 +246,9 @@ impl<'i> Writer<'i> {
         lead: Lead,
         parts: &[Part<'_>],
     ) -> Result<(), AllocError>
-        ensures { OnOk result (out.new.items ≡ out.old.items ++ item_front self.now.format lead (map part_view parts.now)) }
+        ensures { OnOk result (out.new.items ≡ out.old.items ++ item_front self.now.config.now.format lead (map part_view parts.now)) }
     {
-        match self.format {
+        match self.config.format {
             Format::Text => {
                 push_texts(out, &[lead_of(Format::Text, lead).as_bytes(), b" - "])?;
                 push_all(out, &InLine, parts)?;
@@ -214,18 +261,6 @@ impl<'i> Writer<'i> {
         Ok(())
     }
 
-    /// Adds the end of an item.
-    #[tactic(auto, unfolding(crate::specs::Forms::item_end))]
-    pub fn push_item_end(&self, out: &mut Vec<u8>) -> Result<(), AllocError>
-        ensures { OnOk result (out.new.items ≡ out.old.items ++ item_end self.now.format) }
-    {
-        match self.format {
-            Format::Text => out.extend_from_slice(b"\n")?,
-            Format::Json => out.extend_from_slice(b"}")?,
-        }
-        Ok(())
-    }
-
     /// Adds an item.
     pub fn push_item(
         &self,
@@ -233,19 +268,19 @@ impl<'i> Writer<'i> {
         lead: Lead,
         parts: &[Part<'_>],
     ) -> Result<(), AllocError>
-        ensures { OnOk result (out.new.items ≡ out.old.items ++ item_in self.now.format lead (map part_view parts.now)) }
+        ensures { OnOk result (out.new.items ≡ out.old.items ++ item_in self.now.config.now.format lead (map part_view parts.now)) }
     {
         self.push_front(out, lead, parts)?;
-        self.push_item_end(out)?;
+        push_one_of(self.config.format, out, "\n", "}")?;
         Ok(())
     }
 
     /// Adds a name alone.
     #[tactic(auto, unfolding(crate::specs::Forms::name_in))]
     pub fn push_name(&self, out: &mut Vec<u8>, name: &[u8]) -> Result<(), AllocError>
-        ensures { OnOk result (out.new.items ≡ out.old.items ++ name_in self.now.format name.now) }
+        ensures { OnOk result (out.new.items ≡ out.old.items ++ name_in self.now.config.now.format name.now) }
     {
-        match self.format {
+        match self.config.format {
             Format::Text => push_texts(out, &[b"   - ", name, b"\n"])?,
             Format::Json => push_quoted(out, name)?,
         }

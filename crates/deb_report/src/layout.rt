@@ -9,7 +9,6 @@ ghost use Rattle.deb_report.specs.Content.{before_view};
 ghost use Rattle.deb_report.specs.Document.{written_report, written_told};
 
 use crate::content::content_of;
-use crate::document::Document;
 use crate::form::Writer;
 use crate::newly_broken::Before;
 use crate::options::options_of;
@@ -67,14 +66,10 @@ fn text_of(
     let writer = Writer {
         alloc,
         index,
-        format: config.format,
-    };
-    let document = Document {
-        writer,
         config,
         similar: &similar,
     };
-    let text = document.text(options.as_slice(), &content)?;
+    let text = writer.text(options.as_slice(), &content)?;
     Ok((text, content.counts))
 }
 

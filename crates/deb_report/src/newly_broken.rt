@@ -1,4 +1,4 @@
-//! The packages that were broken in an earlier index, by which it is told which of another one are newly broken.
+//! The newly broken packages of an index: those of whose name none was broken in an earlier one.
 
 ghost use Rattle.std.specs.Prelude.{map};
 ghost use Rattle.deb_report.specs.Since.{AreMarks, broken_view, was_broken};

@@ -8,52 +8,50 @@ ghost use Rattle.deb_report.specs.Document.{amended_in, broken_in, counted_in};
 
 use crate::amends::Amends;
 use crate::broken::BrokenPackage;
-use crate::document::Document;
-use crate::form::{Lead, push_list};
+use crate::form::{Lead, Writer, push_list};
 use crate::json_text::push_quoted;
 use crate::parts::Part;
 use deb_relation::Print;
 use std::alloc::AllocError;
 
-impl<'i> Print<(&'static str, usize)> for Document<'i> {
+impl<'i> Print<(&'static str, usize)> for Writer<'i> {
     ghost fits = { λ _ _. Unit {0} };
 
-    ghost text = { λ document number. counted_in document.writer.format (number_view number) };
+    ghost text = { λ writer number. counted_in writer.config.now.format (number_view number) };
 
     fn print(&self, out: &mut Vec<u8>, number: &(&'static str, usize)) -> Result<(), AllocError> {
-        self.writer
-            .push_number(out, Lead::Other, number.0, number.1)?;
+        self.push_number(out, Lead::Other, number.0, number.1)?;
         Ok(())
     }
 }
 
-impl<'i, 'b> Print<&'b BrokenPackage> for Document<'i> {
+impl<'i, 'b> Print<&'b BrokenPackage> for Writer<'i> {
     ghost fits = { λ _ _. Unit {0} };
 
-    ghost text = { λ document deb. broken_in document.writer.format (broken_view deb.now) };
+    ghost text = { λ writer deb. broken_in writer.config.now.format (broken_view deb.now) };
 
     fn print(&self, out: &mut Vec<u8>, deb: &&'b BrokenPackage) -> Result<(), AllocError> {
         let part = Part::Package(deb.name.as_slice(), deb.version.as_slice());
-        self.writer.push_item(out, Lead::Other, &[part])?;
+        self.push_item(out, Lead::Other, &[part])?;
         Ok(())
     }
 }
 
-impl<'i, 'b> Print<Amends<'b>> for Document<'i> {
+impl<'i, 'b> Print<Amends<'b>> for Writer<'i> {
     ghost fits = { λ _ _. Unit {0} };
 
-    ghost text = { λ document amends. amended_in document.writer.format (amends_view amends) };
+    ghost text = { λ writer amends. amended_in writer.config.now.format (amends_view amends) };
 
     #[tactic(auto, using(crate::proofs::FormLemmas::list_map))]
     fn print(&self, out: &mut Vec<u8>, amends: &Amends<'b>) -> Result<(), AllocError> {
-        let form = self.writer.format;
+        let form = self.config.format;
         let packages = amends.packages.as_slice();
         push_list(form, out, Lead::Other, amends.title, self, packages)?;
         Ok(())
     }
 }
 
-impl<'i> Print<&'static str> for Document<'i> {
+impl<'i> Print<&'static str> for Writer<'i> {
     ghost fits = { λ _ _. Unit {0} };
 
     ghost text = { λ _ word. quoted word.now };

@@ -9,13 +9,13 @@ ghost use Rattle.deb_causes.specs.Near.{near_view, IsSimilarOf, stems_in, AreSou
 ghost use Rattle.deb_report.specs.Sought.{FitsWalk};
 ghost use Rattle.deb_report.specs.Forms.{name_in};
 ghost use Rattle.deb_report.specs.WalkLines.{links_in};
-ghost use Rattle.deb_report.specs.Reasons.{entry_field, group_field, near_in, near_to_in, place_in, reason_front, reason_in};
+ghost use Rattle.deb_report.specs.Reasons.{entry_field, group_field, near_in, near_to_in, place_in, reason_front};
 
 use crate::answers::answers_to;
 use crate::form::{Lead, Writer, push_list, push_some};
 use crate::hits::hits_of;
 use crate::parts::{Part, package_part};
-use deb_causes::{NearMiss, Similar, is_missing, near_misses};
+use deb_causes::{NearMiss, is_missing, near_misses};
 use deb_index::{Constraint, Package, RelField};
 use deb_relation::{Atom, Print};
 use std::alloc::AllocError;
@@ -54,7 +54,7 @@ impl<'i> Writer<'i> {
         constraint: Constraint,
     ) -> Result<(), AllocError>
         requires { IsOfIndex self.now.index.now constraint }
-        ensures { OnOk result (out.new.items ≡ out.old.items ++ reason_front self.now.format self.now.index.now constraint) }
+        ensures { OnOk result (out.new.items ≡ out.old.items ++ reason_front self.now.config.now.format self.now.index.now constraint) }
     {
         match constraint {
             Constraint::Essential(name) => {
@@ -92,22 +92,10 @@ impl<'i> Writer<'i> {
     }
 }
 
-impl<'i> Print<Constraint> for Writer<'i> {
-    ghost fits = { λ writer constraint. IsOfIndex writer.index.now constraint };
-
-    ghost text = { λ writer constraint. reason_in writer.format writer.index.now constraint };
-
-    fn print(&self, out: &mut Vec<u8>, constraint: &Constraint) -> Result<(), AllocError> {
-        self.push_reason_front(out, *constraint)?;
-        self.push_item_end(out)?;
-        Ok(())
-    }
-}
-
 impl<'i> Print<u32> for Writer<'i> {
     ghost fits = { λ writer place. place < length writer.index.now.packages };
 
-    ghost text = { λ writer place. place_in writer.format writer.index.now place };
+    ghost text = { λ writer place. place_in writer.config.now.format writer.index.now place };
 
     fn print(&self, out: &mut Vec<u8>, place: &u32) -> Result<(), AllocError> {
         self.push_item(
@@ -122,7 +110,7 @@ impl<'i> Print<u32> for Writer<'i> {
 impl<'i, 'm> Print<NearMiss<'m>> for Writer<'i> {
     ghost fits = { λ _ _. Unit {0} };
 
-    ghost text = { λ writer miss. near_in writer.format (near_view miss) };
+    ghost text = { λ writer miss. near_in writer.config.now.format (near_view miss) };
 
     #[tactic(auto, unfolding(crate::specs::Reasons::near_parts))]
     fn print(&self, out: &mut Vec<u8>, miss: &NearMiss<'m>) -> Result<(), AllocError> {
@@ -140,7 +128,7 @@ impl<'i, 'm> Print<NearMiss<'m>> for Writer<'i> {
 impl<'i> Print<Atom> for Writer<'i> {
     ghost fits = { λ _ _. Unit {0} };
 
-    ghost text = { λ writer atom. name_in writer.format (printed (atom_view atom)) };
+    ghost text = { λ writer atom. name_in writer.config.now.format (printed (atom_view atom)) };
 
     fn print(&self, out: &mut Vec<u8>, atom: &Atom) -> Result<(), AllocError> {
         let mut text = Vec::new(self.alloc);
@@ -153,7 +141,7 @@ impl<'i> Print<Atom> for Writer<'i> {
 impl<'i, 'n> Print<&'n [u8]> for Writer<'i> {
     ghost fits = { λ _ _. Unit {0} };
 
-    ghost text = { λ writer name. name_in writer.format name.now };
+    ghost text = { λ writer name. name_in writer.config.now.format name.now };
 
     fn print(&self, out: &mut Vec<u8>, name: &&'n [u8]) -> Result<(), AllocError> {
         self.push_name(out, name)?;
@@ -167,42 +155,49 @@ impl<'i> Writer<'i> {
     pub(crate) fn push_near_to(
         &self,
         out: &mut Vec<u8>,
-        similar: &Similar,
         constraints: &[Constraint],
     ) -> Result<(), AllocError>
         requires within { All (IsOfIndex self.now.index.now) constraints.now }
-        requires found { IsSimilarOf self.now.index.now similar.now }
-        requires sought { AreSought self.now.index.now (stems_in similar.now) constraints.now }
-        ensures { OnOk result (out.new.items ≡ out.old.items ++ near_to_in self.now.format self.now.index.now constraints.now) }
+        requires found { IsSimilarOf self.now.index.now self.now.similar.now }
+        requires sought { AreSought self.now.index.now (stems_in self.now.similar.now) constraints.now }
+        ensures { OnOk result (out.new.items ≡ out.old.items ++ near_to_in self.now.config.now.format self.now.index.now constraints.now) }
     {
         let misses = near_misses(self.alloc, self.index, constraints)?;
-        let names = similar.names(self.alloc, self.index, constraints)?;
-        push_some(self.format, out, "present", self, misses.as_slice())?;
-        push_some(self.format, out, "similar", self, names.as_slice())?;
+        let names = self.similar.names(self.alloc, self.index, constraints)?;
+        push_some(self.config.format, out, "present", self, misses.as_slice())?;
+        push_some(self.config.format, out, "similar", self, names.as_slice())?;
         Ok(())
     }
 
     /// Adds the member with what a walk goes on to from a need.
     #[tactic(auto, using(crate::proofs::FormLemmas::list_map), unfolding(crate::specs::WalkLines::links_in))]
-    fn push_need_links(
-        &self,
-        out: &mut Vec<u8>,
-        similar: &Similar,
-        place: u32,
-        number: u32,
-    ) -> Result<(), AllocError>
-        requires { FitsWalk self.now.index.now similar.now (Constraint.Need place number) }
-        ensures { OnOk result (out.new.items ≡ out.old.items ++ links_in self.now.format self.now.index.now (Constraint.Need place number)) }
+    fn push_need_links(&self, out: &mut Vec<u8>, place: u32, number: u32) -> Result<(), AllocError>
+        requires { FitsWalk self.now.index.now self.now.similar.now (Constraint.Need place number) }
+        ensures { OnOk result (out.new.items ≡ out.old.items ++ links_in self.now.config.now.format self.now.index.now (Constraint.Need place number)) }
     {
         let need = Constraint::Need(place, number);
         if is_missing(self.alloc, self.index, place, number)? {
             let group = self.index.need(place, number);
-            push_list(self.format, out, Lead::Within, "alternatives", self, group)?;
-            self.push_near_to(out, similar, slice::from_ref(&need))?;
+            push_list(
+                self.config.format,
+                out,
+                Lead::Within,
+                "alternatives",
+                self,
+                group,
+            )?;
+            self.push_near_to(out, slice::from_ref(&need))?;
         } else {
             let answers = answers_to(self.alloc, self.index, need)?;
             let answers = answers.as_slice();
-            push_list(self.format, out, Lead::Within, "met-by", self, answers)?;
+            push_list(
+                self.config.format,
+                out,
+                Lead::Within,
+                "met-by",
+                self,
+                answers,
+            )?;
         }
         Ok(())
     }
@@ -212,23 +207,29 @@ impl<'i> Writer<'i> {
     pub(crate) fn push_links(
         &self,
         out: &mut Vec<u8>,
-        similar: &Similar,
         constraint: Constraint,
     ) -> Result<(), AllocError>
-        requires { FitsWalk self.now.index.now similar.now constraint }
-        ensures { OnOk result (out.new.items ≡ out.old.items ++ links_in self.now.format self.now.index.now constraint) }
+        requires { FitsWalk self.now.index.now self.now.similar.now constraint }
+        ensures { OnOk result (out.new.items ≡ out.old.items ++ links_in self.now.config.now.format self.now.index.now constraint) }
     {
         match constraint {
             Constraint::Essential(_) => (),
-            Constraint::Need(place, number) => self.push_need_links(out, similar, place, number)?,
+            Constraint::Need(place, number) => self.push_need_links(out, place, number)?,
             Constraint::Apart(_, _) => {
                 let hits = hits_of(self.alloc, self.index, slice::from_ref(&constraint))?;
                 let hits = hits.as_slice();
-                push_list(self.format, out, Lead::Within, "hits", self, hits)?;
+                push_list(self.config.format, out, Lead::Within, "hits", self, hits)?;
             }
             Constraint::Only(name) => {
                 let places = self.index.places_named(name);
-                push_list(self.format, out, Lead::Within, "versions", self, places)?;
+                push_list(
+                    self.config.format,
+                    out,
+                    Lead::Within,
+                    "versions",
+                    self,
+                    places,
+                )?;
             }
         }
         Ok(())

@@ -1,4 +1,4 @@
-use Rattle.std.proofs.Common.{◌≡◌, ◌<◌, ◌∙◌, Bor, ℕ, List, ap, arith, false, length, map, sym, true}
+use Rattle.std.proofs.Common.{◌≡◌, ◌<◌, ◌∙◌, All, Bor, ℕ, List, ap, arith, false, length, map, subst, sym, true}
 use Rattle.deb_health.specs.Verdicts.{ToldView, shown_view}
 use Rattle.deb_report.specs.declared.broken.BrokenPackage.{BrokenPackage}
 use Rattle.deb_report.specs.Since.{AreMarks, broken_view, has_named, is_mended}
@@ -7,6 +7,11 @@ use Rattle.deb_report.proofs.MarkLemmas.{mended-tells}
 use Rattle.deb_report.proofs.ShownLemmas.{places-within}
 use Rattle.deb_report.proofs.amends.mended_of.Goals as goal
 use Rattle.deb_report.proofs.amends.mended_of.Goals.{then-is_mended+in_ok-push, else-is_mended}
+
+pub marks_at-requires-2 : goal.marks_at-requires-2
+marks_at-requires-2 c =
+    let index = c.args.index.now in
+    subst (All (λ place. place < length index.packages)) (sym (c.as_slice.ensures.value ∙ c.in_ok-places.ensures)) (places-within index c.args.broken.now c.requires.broken)
 
 pub is_mended-requires-clause-asked : goal.is_mended-requires-clause-asked
 is_mended-requires-clause-asked c = rw c.as_slice-asked_names.ensures.value c.in_ok-asked_marks.ensures.0
@@ -23,7 +28,8 @@ loop-deb-preserved c =
     let deb = c.deb-item.result in
     let inside : c.loop-deb.deb-index < length c.args.before.now = omega arith in
     let of_asked : AreMarks index (has_named index asked) c.as_slice-asked_names.result.now = rw c.as_slice-asked_names.ensures.value c.in_ok-asked_marks.ensures in
-    let of_broken : AreMarks index (has_named index places) c.as_slice-broken_names.result.now = rw c.as_slice-broken_names.ensures.value c.in_ok-broken_marks.ensures in
+    let of_broken : AreMarks index (has_named index places) c.as_slice-broken_names.result.now =
+    rw (c.as_slice-broken_names.ensures.value, ← c.in_ok-places.ensures, ← c.as_slice.ensures.value) c.in_ok-broken_marks.ensures in
     let tells : c.is_mended.result ≡ test (broken_view deb) =
     c.is_mended.ensures
     ∙ mended-tells index asked places c.as_slice-asked_names.result.now c.as_slice-broken_names.result.now deb.name.items of_asked of_broken c.requires.asked (places-within index c.args.broken.now c.requires.broken) in

@@ -5,11 +5,11 @@ use Rattle.deb_health.specs.Verdicts.{shown_view, told_view}
 use Rattle.run_settings.specs.declared.config.Show.TheVariants.{Failures}
 use Rattle.run_settings.specs.Settings.{settings_of}
 use Rattle.deb_causes.specs.Causes.{cause_view}
-use Rattle.deb_report.specs.Outcome.{broken_ones, number_view, numbers_of, summary_with}
-use Rattle.deb_report.specs.Since.{amends_view, broken_view, is_news}
+use Rattle.deb_report.specs.Outcome.{broken_ones}
+use Rattle.deb_report.specs.Since.{amends_of, amends_view, broken_view, is_news}
 use Rattle.deb_report.specs.Content.{causes_if}
 use Rattle.deb_report.proofs.ShownLemmas.{kept-within, shown-within}
-use Rattle.deb_report.proofs.ReportLemmas.{counted, counts-since, since-is}
+use Rattle.deb_report.proofs.ReportLemmas.{content-is, counted, counts-since, news-are}
 use Rattle.deb_report.proofs.content.content_of.Goals as goal
 
 -- what holds of the broken ones
@@ -47,37 +47,26 @@ causes_if-requires-in-Some c =
     (shown-within c.args.index.now Failures c.args.asked.now (map told_view c.args.told.now) c.as_slice-broken.result.now
     (ap (map shown_view) c.as_slice-broken.ensures.value ∙ c.in_ok-failures.ensures) c.requires.places c.requires.within))
 
-pub returns-clause-counts : goal.returns-clause-counts
-returns-clause-counts c =
-    let before = c.in-Some.before.now in
-    let news = c.in_ok-news-in-Some.news.items in
-    let size : c.len.result ≡ length news = search rules in
-    rw c.in-Some.is
-    (ap (λ (count : ℕ). counted (length c.args.asked.now) (length c.as_slice-broken.result.now) (Some count)) size
-    ∙ counts-since c.args.index.now c.args.asked.now (map told_view c.args.told.now) (map broken_view before.packages.now) c.as_slice-broken.result.now news
-    (ap (map shown_view) c.as_slice-broken.ensures.value ∙ c.in_ok-failures.ensures)
-    (rw (rw c.in-Some.is at c.requires.before) at c.in_ok-news-in-Some.ensures))
-
 pub returns-clause-content : goal.returns-clause-content
 returns-clause-content c =
     let before = c.in-Some.before.now in
     let index = c.args.index.now in
     let asked = c.args.asked.now in
     let told = map told_view c.args.told.now in
+    let packages = map broken_view before.packages.now in
     let broken = c.as_slice-broken.result.now in
     let news = c.in_ok-news-in-Some.news.items in
     let are : map shown_view broken ≡ broken_ones asked told = ap (map shown_view) c.as_slice-broken.ensures.value ∙ c.in_ok-failures.ensures in
-    let counts = counted (length asked) (length broken) (Some c.len.result) in
     let size : c.len.result ≡ length news = search rules in
     let new = rw (rw c.in-Some.is at c.requires.before) at c.in_ok-news-in-Some.ensures in
+    let told_new = news-are index asked told packages (map shown_view broken) (map shown_view news) are new in
     rw c.in-Some.is
-    (since-is index asked told (settings_of c.args.config.now) (map shown_view news) (map shown_view broken) (map broken_view before.packages.now) counts
-    (map number_view c.in_ok-numbers-in-Some.numbers.items) (map amends_view c.in_ok-lists-in-Some.lists.items)
+    (content-is index asked told (settings_of c.args.config.now) (Some packages) (map shown_view news) (map shown_view news)
+    (counted (length asked) (length broken) (Some c.len.result)) (map amends_view c.in_ok-lists-in-Some.lists.items)
     (option_map (λ list. map cause_view list.items) c.in_ok-causes-in-Some.causes)
-    are new
-    (ap (λ (count : ℕ). counted (length asked) (length broken) (Some count)) size ∙ counts-since index asked told (map broken_view before.packages.now) broken news are new)
-    (c.in_ok-numbers-in-Some.ensures ∙ ap (λ background. numbers_of background (summary_with index counts)) c.is_some-in-Some.ensures)
-    c.in_ok-lists-in-Some.ensures
+    told_new told_new
+    (ap (λ (count : ℕ). counted (length asked) (length broken) (Some count)) size ∙ counts-since index asked told packages broken news are new)
+    (c.in_ok-lists-in-Some.ensures ∙ ap (λ listed. amends_of index asked listed packages) are)
     (c.in_ok-causes-in-Some.ensures.value ∙ ap (λ (shown : List Shown). causes_if c.args.config.now.causes index (map shown_view shown)) c.as_slice.ensures.value))
 
 pub returns-clause-within : goal.returns-clause-within

@@ -1,3 +1,5 @@
+use Rattle.std.proofs.Common.{ap}
+use Rattle.deb_report.specs.Content.{ContentView}
 use Rattle.deb_report.proofs.layout.text_of.Goals as goal
 
 pub similar_to_walks-requires : goal.similar_to_walks-requires
@@ -5,3 +7,6 @@ similar_to_walks-requires c = rw c.as_slice.ensures.value c.in_ok-content.ensure
 
 pub text-requires-clause-walked : goal.text-requires-clause-walked
 text-requires-clause-walked c = rw c.as_slice.ensures.value at c.in_ok-similar.ensures
+
+pub returns-clause-counts : goal.returns-clause-counts
+returns-clause-counts c = ap (λ (view : ContentView). view.counts) c.in_ok-content.ensures.content

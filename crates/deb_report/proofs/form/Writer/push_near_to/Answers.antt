@@ -9,7 +9,7 @@ use Rattle.deb_report.proofs.form.Writer.push_near_to.Goals as goal
 pub returns : goal.returns
 unfolding near_to_in
 returns c =
-    let form = c.args.self.now.format in
+    let form = c.args.self.now.config.now.format in
     let index = c.args.self.now.index.now in
     let constraints = c.args.constraints.now in
     let present = some_in form (codes "present") (near_in form) in

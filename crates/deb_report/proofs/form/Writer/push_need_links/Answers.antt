@@ -13,7 +13,7 @@ use Rattle.deb_report.proofs.form.Writer.push_need_links.Goals as goal
 pub returns-in_ok-push_near_to : goal.returns-in_ok-push_near_to
 unfolding links_in
 returns-in_ok-push_near_to c =
-    let form = c.args.self.now.format in
+    let form = c.args.self.now.config.now.format in
     let index = c.args.self.now.index.now in
     let name = λ (atom : AtomText). name_in form (printed atom) in
     let alternatives = list_in form Within (codes "alternatives") name in

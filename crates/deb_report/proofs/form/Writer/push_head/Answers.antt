@@ -5,7 +5,7 @@ use Rattle.deb_report.specs.Document.{head_in}
 use Rattle.deb_report.specs.Forms.{list_in, quoted}
 use Rattle.deb_report.proofs.FormLemmas.{list_map}
 use Rattle.deb_report.proofs.JoinLemmas.{added}
-use Rattle.deb_report.proofs.document.Document.push_head.Goals as goal
+use Rattle.deb_report.proofs.form.Writer.push_head.Goals as goal
 
 pub returns-in_ok-push_list-in-Json : goal.returns-in_ok-push_list-in-Json
 unfolding head_in
