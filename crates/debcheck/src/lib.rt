@@ -12,7 +12,7 @@
 //! - `laws`: what holds of runs and of reports.
 //! - `program`: a program, from its words to its exit status, on the files that are opened by their names, one of which may have the names that are
 //!   asked, and with a hint on a screen.
-//! - `progress`: the line that tells how far a run has come; `wiping` takes it away before the program's output is written.
+//! - `progress`: the line that tells how far a run has come, and that is gone before the program writes anything else.
 #![tactic(auto)]
 
 mod asked;
@@ -27,7 +27,6 @@ mod program;
 mod progress;
 mod since;
 mod verdicts;
-mod wiping;
 
 pub use asked::asked_places;
 pub use command_line::{LineFault, VERSION_LINE, line_status, read_line, words_of};

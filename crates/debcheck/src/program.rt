@@ -15,7 +15,6 @@ use crate::output::{refuse, tell_outcome};
 use crate::phases::run_ending;
 use crate::progress::Progress;
 use crate::since::run_since;
-use crate::wiping::Wiping;
 use command_line::{LineFault, read_line, words_of};
 use deb_input::{Input, RunFault, read_names};
 use deb_report::Summary;
@@ -183,7 +182,7 @@ pub fn run_program<
     words: Result<Vec<String>, LineFault>,
     files: &O,
     reader: &mut S,
-    output: K,
+    mut output: K,
     errors: &mut E,
     screen: T,
 ) -> Ended<K>
@@ -196,22 +195,19 @@ pub fn run_program<
         (written (E.contents errors.old) (E.contents errors.new) (E.failed errors.new) (E.flushed errors.new) (E.abandoned errors.new)) result.status }
 {
     match config_of(rt.alloc(), words) {
-        Ok(config) => {
-            let mut config = config;
+        Ok(mut config) => {
             let progress = Progress::new(rt, screen, &config);
-            let mut output = Wiping::new(&progress, output);
             progress.tell_reading(reader.is_terminal());
             let outcome = name_and_run(rt, &mut config, files, reader, &mut output, &progress);
-            progress.wipe();
+            progress.end();
             tell_outcome(rt.alloc(), errors, &outcome, output.is_abandoned());
             tell_hint(rt.alloc(), screen, &config, files, reader, &outcome);
             Ended {
                 status: status(&outcome),
-                output: output.into_inner(),
+                output,
             }
         }
         Err(fault) => {
-            let mut output = output;
             let status = refuse(rt.alloc(), &mut output, errors, &fault);
             Ended { status, output }
         }

@@ -114,20 +114,12 @@ impl<'a, R: Clock + AllocGlobal, T: IsTerminal + Write + Copy> Progress<'a, R, T
         let mut screen = self.screen;
         let _ = screen.write(if is_typed { TYPED } else { READING });
     }
-
-    /// Takes the line away, where it stands.
-    pub fn wipe(&self) {
-        if self.told.swap(TURNS, Ordering::SeqCst) > TURNS {
-            let mut screen = self.screen;
-            let _ = screen.write(BLANK);
-        }
-    }
 }
 
 impl<R: Clock + AllocGlobal, T: IsTerminal + Write + Copy> Gate for Progress<'_, R, T> {
-    // The line of an earlier check goes, since it may be longer.
+    // The line that stands there goes, since it may be longer.
     fn start(&self, all: u32) {
-        self.wipe();
+        self.end();
         self.all.store(all, Ordering::SeqCst);
         self.checked.store(0, Ordering::SeqCst);
         self.tell_in_turn();
@@ -142,5 +134,13 @@ impl<R: Clock + AllocGlobal, T: IsTerminal + Write + Copy> Gate for Progress<'_,
         self.checked
             .fetch_add(left.min(self.chunk), Ordering::SeqCst);
         self.tell_in_turn();
+    }
+
+    // Takes the line away, where it stands.
+    fn end(&self) {
+        if self.told.swap(TURNS, Ordering::SeqCst) > TURNS {
+            let mut screen = self.screen;
+            let _ = screen.write(BLANK);
+        }
     }
 }

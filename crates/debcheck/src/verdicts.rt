@@ -129,22 +129,24 @@ fn marks_for(
     find_installable(alloc, groundwork, asked)
 }
 
-// What is told of the asked places of a groundwork's index, in their order. Where no set is, what `find_installable` marks is looked up.
-fn tell_on<'t, G: Gate + Sync, R: Threads + Sync>(
+// What is told of the asked places of an index, in their order, on one groundwork for all of them. Where no set is, what `find_installable` marks is
+// looked up.
+fn tell_each<'t, G: Gate + Sync, R: Threads + Sync>(
     job: &Job<'_, G, R>,
-    groundwork: &'t Groundwork<'t>,
+    index: &'t Index,
     asked: &[u32],
     before: Option<&'t Before<'t>>,
     wanted: Wanted,
 ) -> Result<Vec<Told>, AllocError>
-    requires places { All (λ place. place < length groundwork.now.index.now.packages) asked.now }
+    requires places { All (λ place. place < length index.now.packages) asked.now }
     requires few { length asked.now < 2 ^ 32 }
-    requires before { ForSome before (λ before. before.now.index.now ≡ groundwork.now.index.now) }
-    ensures { IfOk result (λ told. AnswersEach (IsToldAt wanted groundwork.now.index.now (before_view before.entry)) asked.now told.items) }
+    requires before { ForSome before (λ before. before.now.index.now ≡ index.now) }
+    ensures { IfOk result (λ told. AnswersEach (IsToldAt wanted index.now (before_view before.entry)) asked.now told.items) }
 {
-    let installable = marks_for(job.alloc, groundwork, asked, wanted.sets)?;
+    let groundwork = Groundwork::new(job.alloc, index)?;
+    let installable = marks_for(job.alloc, &groundwork, asked, wanted.sets)?;
     let teller = Teller {
-        groundwork,
+        groundwork: &groundwork,
         wanted,
         before,
         installable: installable.as_slice(),
@@ -156,25 +158,8 @@ fn tell_on<'t, G: Gate + Sync, R: Threads + Sync>(
         chunk: job.config.chunk,
         gate: job.gate,
     };
-    check_each(job.rt, job.alloc, &chunks, job.config.workers)
-}
-
-// The same of an index, on one groundwork for all of them.
-fn tell_each<G: Gate + Sync, R: Threads + Sync>(
-    job: &Job<'_, G, R>,
-    index: &Index,
-    asked: &[u32],
-    before: Option<&Before<'_>>,
-    wanted: Wanted,
-) -> Result<Vec<Told>, AllocError>
-    requires places { All (λ place. place < length index.now.packages) asked.now }
-    requires few { length asked.now < 2 ^ 32 }
-    requires before { ForSome before (λ before. before.now.index.now ≡ index.now) }
-    ensures { IfOk result (λ told. AnswersEach (IsToldAt wanted index.now (before_view before.entry)) asked.now told.items) }
-{
-    let groundwork = Groundwork::new(job.alloc, index)?;
-    let told = tell_on(job, &groundwork, asked, before, wanted);
-    drop(groundwork);
+    let told = check_each(job.rt, job.alloc, &chunks, job.config.workers);
+    job.gate.end();
     told
 }
 

@@ -128,7 +128,7 @@ fn expect_wiped(rt: &(impl Abort + AllocGlobal), config: &Config) {
     progress.start(u32::MAX);
     progress.after(0);
     let then = screen.stands();
-    progress.wipe();
+    progress.end();
     let stood = [before, then, screen.stands()];
     assert!(rt; stood == [false, true, false] && screen.lines() == 1 && screen.ends_left() == 0);
 }

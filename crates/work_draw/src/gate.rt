@@ -10,6 +10,9 @@ pub trait Gate {
 
     /// After all verdicts of the chunk were found. May wait.
     fn after(&self, number: u32);
+
+    /// After the last chunk, also where memory was refused, by whoever called `check_each`.
+    fn end(&self) {}
 }
 
 /// Lets every chunk through at once.
