@@ -7,7 +7,7 @@ use Rattle.deb_index.specs.Packages.{IndexView}
 use Rattle.deb_index.specs.Reading.{in_fore, index_of, index_of_both}
 use Rattle.deb_index.proofs.BackgroundLemmas.{both-empty}
 use Rattle.deb_input.specs.declared.fault.RunFault.{RunFault}
-use Rattle.deb_input.specs.declared.fault.RunFault.TheVariants.{Read, TooLong, BackgroundRead, BackgroundTooLong, EarlierRead, EarlierTooLong, NamesRead, NamesTooLong, BadNameLine, Index, Background, Earlier, UnknownAsked, Slipped, Memory, Write}
+use Rattle.deb_input.specs.declared.fault.RunFault.TheVariants.{BackgroundRead, BackgroundTooLong, Background}
 use Rattle.deb_report.specs.declared.summary.Summary.{Summary}
 use Rattle.deb_report.specs.Since.{BrokenView}
 use Rattle.run_settings.specs.Settings.{Settings}
@@ -23,9 +23,8 @@ none-refused : (text arch : List ℕ) (essential : Bool) (fault : IndexError) �
 none-refused text arch essential fault h = fore-alone (index_of text arch essential) fault (sym (both-empty text arch essential) ∙ h)
 
 -- what is not asked for is read as no bytes
-read_as_none : (asked : Bool) (background : Input) (more : List ℕ) → asked ≡ false → IsReadAs (if asked then background else input (Some []) false) more → more ≡ []
-read_as_none true background more none reads = absurd cc
-read_as_none false background more none reads = sym reads.1
+no-input : (asked : Bool) (background : Input) → asked ≡ false → (if asked then background else input (Some []) false) ≡ input (Some []) false
+no-input asked background none = rw none refl
 
 -- a background with a fault was asked for
 pub back-asked : (settings : Settings) (background : Input) (bytes more : List ℕ) (fault : IndexError) → IsReadAs (behind settings background) more
@@ -34,7 +33,8 @@ back-asked settings background bytes more fault reads h = elim (cases_Bool setti
   | inl asked ↦ asked
   | inr none ↦
       let P : List ℕ → Type 0 = λ m. index_of_both bytes m settings.arch settings.essential ≡ Err (Back fault) in
-      absurd (none-refused bytes settings.arch settings.essential fault (subst P (read_as_none settings.background background more none reads) h))
+      let read = rw (no-input settings.background background none) at reads in
+      absurd (none-refused bytes settings.arch settings.essential fault (subst P (sym read.1) h))
 ]
 
 same-alone : (read : Result IndexView IndexError) (both fore : IndexView) → in_fore read ≡ Ok both → read ≡ Ok fore → both ≡ fore
@@ -53,14 +53,8 @@ report-alone settings text background output summary index none is report =
     let R : Option (List BrokenView) → Type 0 = λ before. IsReportOn before settings index output summary in
     subst R report.was (subst Q same has.holds)
 
-no-input : (asked : Bool) (background : Input) → asked ≡ false → (if asked then background else input (Some []) false) ≡ input (Some []) false
-no-input true background none = absurd cc
-no-input false background none = refl
-
 -- nor is any fault told of one
 pub fails-alone : (settings : Settings) (text background : Input) (write_failed : Bool) (fault : RunFault) → settings.background ≡ false → FailsAlone settings text background write_failed fault → is_of_background fault ≡ false
-fails-alone settings text background w Read none h = refl
-fails-alone settings text background w TooLong none h = refl
 fails-alone settings text background w BackgroundRead none h =
     let unmarked : (behind settings background).failed ≡ false = ap (λ (source : Input). source.failed) (no-input settings.background background none) in
     let marked = h.1 in
@@ -68,17 +62,7 @@ fails-alone settings text background w BackgroundRead none h =
 fails-alone settings text background w BackgroundTooLong none h =
     let over = (rw (no-input settings.background background none) at h.1).1 in
     absurd (omega arith)
-fails-alone settings text background w EarlierRead none h = refl
-fails-alone settings text background w EarlierTooLong none h = refl
-fails-alone settings text background w NamesRead none h = refl
-fails-alone settings text background w NamesTooLong none h = refl
-fails-alone settings text background w (BadNameLine line) none h = refl
-fails-alone settings text background w (Index fault) none h = refl
 fails-alone settings text background w (Background fault) none h =
     let asked = h.0 in
     absurd cc
-fails-alone settings text background w (Earlier fault) none h = refl
-fails-alone settings text background w (UnknownAsked name) none h = refl
-fails-alone settings text background w (Slipped slip) none h = refl
-fails-alone settings text background w Memory none h = refl
-fails-alone settings text background w Write none h = refl
+fails-alone settings text background w fault none h = refl

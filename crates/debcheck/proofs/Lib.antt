@@ -3,5 +3,4 @@ mod OneReport
 mod PhaseLemmas
 mod ProgramLemmas
 mod RunLemmas
-mod SinceLemmas
 mod TellLemmas

@@ -1,5 +1,5 @@
 -- Texts have one report, since one thing is told of a package.
-use Rattle.std.proofs.Common.{◌≡◌, ℕ, List, [], ◌∷◌, None, Option, Some, is_some, refl, sym, ap, ap₂, subst, ◌∙◌}
+use Rattle.std.proofs.Common.{◌≡◌, ℕ, List, [], ◌∷◌, None, Option, Some, is_some, refl, sym, ap, ap₂, subst, arith, ◌∙◌}
 use Rattle.deb_index.specs.Packages.{IndexView}
 use Rattle.deb_health.specs.declared.told.Wanted.{Wanted}
 use Rattle.deb_health.specs.Verdicts.{IsTold, ToldView}
@@ -18,12 +18,9 @@ OneTold = (wanted : Wanted) (index : IndexView) (p : ℕ) (a b : ToldView) → I
 one_each : OneTold → (wanted : ℕ → Wanted) (index : IndexView) (asked : List ℕ) (as_told bs : List ToldView)
     → AnswersEach (λ place. IsTold (wanted place) index place) asked as_told → AnswersEach (λ place. IsTold (wanted place) index place) asked bs → as_told ≡ bs
 one_each one wanted index [] [] [] first second = refl
-one_each one wanted index [] [] (b ∷ bs) first second = absurd second
-one_each one wanted index [] (a ∷ as_told) bs first second = absurd first
-one_each one wanted index (p ∷ asked) [] bs first second = absurd first
-one_each one wanted index (p ∷ asked) (a ∷ as_told) [] first second = absurd second
 one_each one wanted index (p ∷ asked) (a ∷ as_told) (b ∷ bs) first second =
     ap₂ (λ x xs. x ∷ xs) (one (wanted p) index p a b first.0 second.0) (one_each one wanted index asked as_told bs first.1 second.1)
+one_each one wanted index asked as_told bs first second = absurd (grind arith)
 
 -- an index has one report since these packages were broken
 one_report_on : OneTold → (before : Option (List BrokenView)) (settings : Settings) (index : IndexView) (a b : List ℕ) (m n : Summary)

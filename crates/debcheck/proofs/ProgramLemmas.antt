@@ -1,20 +1,20 @@
 -- Lemmas on what a program comes to.
-use Rattle.std.proofs.Common.{◌≡◌, ◌∙◌, ℕ, Bool, true, false, List, Option, Some, None, Result, Ok, Err, IfErr, IfOk, OnErr, OnOk, inl, inr, option_map, refl, string_bytes, subst, sym}
+use Rattle.std.proofs.Common.{◌≡◌, ◌∙◌, ℕ, Bool, true, false, List, Option, Some, None, Result, Ok, Err, IfErr, IfOk, OnErr, OnOk, inl, inr, refl, subst, sym}
 use Rattle.std.specs.Io.KnownBytes.{Appends}
 use Rattle.run_settings.specs.declared.config.Config.{Config}
 use Rattle.deb_report.specs.declared.summary.Summary.{Summary}
-use Rattle.run_settings.specs.Settings.{Settings, settings_of}
+use Rattle.run_settings.specs.Settings.{Settings}
 use Rattle.devices.specs.declared.device.DeviceFault.{DeviceFault}
 use Rattle.deb_input.specs.declared.fault.RunFault.{RunFault}
 use Rattle.deb_input.specs.declared.fault.RunFault.TheVariants as run_fault
 use Rattle.command_line.specs.declared.fault.LineFault.{LineFault}
 use Rattle.command_line.specs.declared.fault.LineFault.TheVariants.{Refused, Help, Memory}
-use Rattle.devices.specs.Devices.{AppendsPart, IsHeld, IsUnopened, unknown}
+use Rattle.devices.specs.Devices.{AppendsPart, IsHeld, IsUnopened}
 use Rattle.deb_input.specs.Faults.{told_line}
-use Rattle.debcheck.specs.Statuses.{status_of, KeepsOther, TellsFront, TellsLine, mark_of}
+use Rattle.debcheck.specs.Statuses.{KeepsOther, TellsFront, TellsLine, mark_of}
 use Rattle.command_line.specs.Line.{Accepts, RefusesLine, line_status_of}
 use Rattle.deb_input.specs.Names.{FailsToName, ReadsNames}
-use Rattle.debcheck.specs.Program.{Asks, Ends, EndsSomehow, FailsToTake, IsEarlier, IsNamed, IsUnbegun, MayFail, Named, Refuses, Runs, RunsBehind, RunsNamed, RunsTo, TakesNames, TellsFault, TellsOutcome, TellsUnless, Text, is_silent}
+use Rattle.debcheck.specs.Program.{Asks, FailsToTake, IsEarlier, IsNamed, IsUnbegun, MayFail, Named, Refuses, RunsBehind, TakesNames, TellsFault, TellsUnless, Text}
 use Rattle.deb_input.specs.Inputs.{Input, input}
 use Rattle.debcheck.specs.Run.{RunsOn, Written, written}
 
@@ -71,60 +71,32 @@ unfolding Asks
 asks_read words (Ok config) accepted refused = accepted
 asks_read words (Err fault) accepted refused = refused
 
-pub asks_nothing : (fault : LineFault) → Asks (Err fault) (Err fault)
-unfolding Asks
-asks_nothing fault = refl
-
 -- ---- the run
+
+-- what holds of the name that a word gives
+by_name : (P : Option Text → Type 0) (name : Option Text) (told said : Text) → name ≡ Some said → told ≡ said → P (Some told) → P name
+by_name P name told said is same h = rw (is, ← same) h
 
 -- what was opened under a name
 pub named_by : (files : Named) (name : Option Text) (told said : Text) (background : Input) → name ≡ Some said → told ≡ said → IsHeld (files told) background.text → IsNamed files name background
-named_by files None told said background is same held = absurd cc
-named_by files (Some found) told said background is same held =
-    let e : told ≡ found = cc in
-    let P : Text → Type 0 = λ t. IsHeld (files t) background.text in
-    subst P e held
-
-earlier_by : (files : Named) (since : Option Text) (told said : Text) (earlier : Input) → since ≡ Some said → told ≡ said → IsHeld (files told) earlier.text → IsEarlier files since (Some earlier)
-earlier_by files None told said earlier is same held = absurd cc
-earlier_by files (Some found) told said earlier is same held =
-    let e : told ≡ found = cc in
-    let P : Text → Type 0 = λ t. IsHeld (files t) earlier.text in
-    (earlier, refl, subst P e held)
+named_by files name told said background is same held = by_name (λ n. IsNamed files n background) name told said is same held
 
 -- where a read of what was opened may fail, so may one of what stands under the name
-pub may_by : (files : Named) (name : Option Text) (told said : Text) (may : Bool) → name ≡ Some said → told ≡ said → may ≡ (files told).may_fail → may ≡ true → MayFail files name
-may_by files None told said may is same stands fails = tt
-may_by files (Some found) told said may is same stands fails =
-    let e : told ≡ found = cc in
-    let P : Text → Type 0 = λ t. may ≡ (files t).may_fail in
-    let here : may ≡ (files found).may_fail = subst P e stands in
-    sym here ∙ fails
-
-pub may_behind : (files : Named) (name : Option Text) (told said : Text) (may : Bool) (r : Result Summary RunFault) → name ≡ Some said → told ≡ said → may ≡ (files told).may_fail
-    → IfErr r (λ fault. fault ≡ run_fault.BackgroundRead → may ≡ true) → r ≡ Err run_fault.BackgroundRead → MayFail files name
-may_behind files name told said may (Ok summary) is same stands fails outcome = absurd cc
-may_behind files name told said may (Err fault) is same stands fails outcome =
-    let e : fault ≡ run_fault.BackgroundRead = cc in
-    may_by files name told said may is same stands (fails e)
-
-may_earlier : (files : Named) (name : Option Text) (told said : Text) (may : Bool) (r : Result Summary RunFault) → name ≡ Some said → told ≡ said → may ≡ (files told).may_fail
-    → IfErr r (λ fault. fault ≡ run_fault.EarlierRead → may ≡ true) → r ≡ Err run_fault.EarlierRead → MayFail files name
-may_earlier files name told said may (Ok summary) is same stands fails outcome = absurd cc
-may_earlier files name told said may (Err fault) is same stands fails outcome =
-    let e : fault ≡ run_fault.EarlierRead = cc in
-    may_by files name told said may is same stands (fails e)
+pub may_by : (files : Named) (name : Option Text) (told said : Text) (may : Bool) (of : RunFault) (r : Result Summary RunFault) → name ≡ Some said → told ≡ said → may ≡ (files told).may_fail
+    → IfErr r (λ fault. fault ≡ of → may ≡ true) → r ≡ Err of → MayFail files name
+may_by files name told said may of (Ok summary) is same stands fails outcome = absurd cc
+may_by files name told said may of (Err fault) is same stands fails outcome =
+    let e : fault ≡ of = cc in
+    by_name (MayFail files) name told said is same (sym stands ∙ fails e)
 
 pub may_none : (files : Named) (name : Option Text) → name ≡ None → MayFail files name
-may_none files None is = tt
-may_none files (Some found) is = absurd cc
+may_none files name is = rw is tt
 
 -- a run without an earlier index
 pub runs_alone : (settings : Settings) (files : Named) (since : Option Text) (text background : Input) (rest : Option (List ℕ)) (output : Written) (r : Result Summary RunFault) → since ≡ None
     → RunsOn settings None text background output r → RunsBehind settings files since text background rest output r
 unfolding RunsBehind
-runs_alone settings files None text background rest output r none runs = inr (None, refl, (λ is. tt), runs)
-runs_alone settings files (Some name) text background rest output r none runs = absurd cc
+runs_alone settings files since text background rest output r none runs = rw none (inr (None, refl, (λ is. tt), runs))
 
 -- a run on an earlier index
 pub runs_since : (settings : Settings) (files : Named) (since : Option Text) (told said : Text) (may : Bool) (text background earlier : Input) (rest : Option (List ℕ)) (output : Written) (r : Result Summary RunFault)
@@ -132,115 +104,37 @@ pub runs_since : (settings : Settings) (files : Named) (since : Option Text) (to
     → RunsOn settings (Some earlier) text background output r → RunsBehind settings files since text background rest output r
 unfolding RunsBehind
 runs_since settings files since told said may text background earlier rest output r is same held stands honest runs =
-    inr (Some earlier, earlier_by files since told said earlier is same held, may_earlier files since told said may r is same stands honest, runs)
-
-pub runs_named : (settings : Settings) (files : Named) (bg since : Option Text) (text background : Input) (rest : Option (List ℕ)) (output : Written) (r : Result Summary RunFault)
-    → IsNamed files bg background → (r ≡ Err run_fault.BackgroundRead → MayFail files bg) → RunsBehind settings files since text background rest output r
-    → Runs settings files bg since text rest output r
-unfolding Runs
-runs_named settings files bg since text background rest output r named honest runs = inr (background, named, honest, runs)
+    let opened : IsEarlier files since (Some earlier) = by_name (λ n. IsEarlier files n (Some earlier)) since told said is same (earlier, refl, held) in
+    inr (Some earlier, opened, may_by files since told said may run_fault.EarlierRead r is same stands honest, runs)
 
 -- a file was not opened, since there is nothing, or memory was wanted
 pub unopened : (files : Named) (name : Option Text) (fault : RunFault) (told said : Text) (rest held : Option (List ℕ)) (read write flushed abandoned : Bool) → name ≡ Some said → told ≡ said → read ≡ false
     → IsUnopened (files told) → IsUnbegun files name fault (input rest read) rest (written held held write flushed abandoned) fault
-unopened files None fault told said rest held read write flushed abandoned is same unread none = absurd cc
-unopened files (Some found) fault told said rest held read write flushed abandoned is same unread none =
-    let e : told ≡ found = cc in
-    let P : Text → Type 0 = λ t. IsUnopened (files t) in
-    (unread, refl, refl, inl (refl, subst P e none))
+unopened files name fault told said rest held read write flushed abandoned is same unread none =
+    by_name (λ n. IsUnbegun files n fault (input rest read) rest (written held held write flushed abandoned) fault) name told said is same (unread, refl, refl, inl (refl, none))
 
 pub unopened_memory : (files : Named) (name : Option Text) (fault : RunFault) (said : Text) (rest held : Option (List ℕ)) (read write flushed abandoned : Bool) → name ≡ Some said → read ≡ false
     → IsUnbegun files name fault (input rest read) rest (written held held write flushed abandoned) run_fault.Memory
-unopened_memory files None fault said rest held read write flushed abandoned is unread = absurd cc
-unopened_memory files (Some found) fault said rest held read write flushed abandoned is unread = (unread, refl, refl, inr refl)
-
-pub unbegun_earlier : (settings : Settings) (files : Named) (since : Option Text) (text background : Input) (rest : Option (List ℕ)) (output : Written) (fault : RunFault)
-    → IsUnbegun files since run_fault.EarlierRead text rest output fault → RunsBehind settings files since text background rest output (Err fault)
-unfolding RunsBehind
-unbegun_earlier settings files since text background rest output fault h = inl (fault, refl, h)
-
-pub unbegun_background : (settings : Settings) (files : Named) (bg since : Option Text) (text : Input) (rest : Option (List ℕ)) (output : Written) (fault : RunFault)
-    → IsUnbegun files bg run_fault.BackgroundRead text rest output fault → Runs settings files bg since text rest output (Err fault)
-unfolding Runs
-unbegun_background settings files bg since text rest output fault h = inl (fault, refl, h)
+unopened_memory files name fault said rest held read write flushed abandoned is unread = rw is (unread, refl, refl, inr refl)
 
 -- ---- the names that are asked
 
 pub takes_none : (files : Named) (name : Option Text) (settings : Settings) → name ≡ None → TakesNames files name settings settings
-takes_none files None settings none = refl
-takes_none files (Some name) settings none = absurd cc
+takes_none files name settings none = rw none refl
 
 pub takes_those : (files : Named) (name : Option Text) (told said : Text) (source : Input) (names : List (List ℕ)) (settings taken : Settings) → name ≡ Some said → told ≡ said
     → IsHeld (files told) source.text → ReadsNames source names → taken ≡ record settings { only = Some names } → TakesNames files name settings taken
-takes_those files None told said source names settings taken is same held reads takes = absurd cc
-takes_those files (Some found) told said source names settings taken is same held reads takes =
-    let e : told ≡ found = cc in
-    let P : Text → Type 0 = λ t. IsHeld (files t) source.text in
-    (source, subst P e held, (names, reads, takes))
+takes_those files name told said source names settings taken is same held reads takes =
+    by_name (λ n. TakesNames files n settings taken) name told said is same (source, held, (names, reads, takes))
 
 pub takes_unopened : (files : Named) (name : Option Text) (told said : Text) (fault : RunFault) → name ≡ Some said → told ≡ said → fault ≡ run_fault.NamesRead → IsUnopened (files told) → FailsToTake files name fault
-takes_unopened files None told said fault is same unread none = absurd cc
-takes_unopened files (Some found) told said fault is same unread none =
-    let e : told ≡ found = cc in
-    let P : Text → Type 0 = λ t. IsUnopened (files t) in
-    inl (unread, subst P e none)
+takes_unopened files name told said fault is same unread none = by_name (λ n. FailsToTake files n fault) name told said is same (inl (unread, none))
 
 pub takes_memory : (files : Named) (name : Option Text) (said : Text) (fault : RunFault) → name ≡ Some said → fault ≡ run_fault.Memory → FailsToTake files name fault
-takes_memory files None said fault is wanted = absurd cc
-takes_memory files (Some found) said fault is wanted = inr (inl wanted)
+takes_memory files name said fault is wanted = rw is (inr (inl wanted))
 
 pub takes_bad : (files : Named) (name : Option Text) (told said : Text) (may : Bool) (source : Input) (fault : RunFault) → name ≡ Some said → told ≡ said → IsHeld (files told) source.text
     → may ≡ (files told).may_fail → (fault ≡ run_fault.NamesRead → may ≡ true) → FailsToName source fault
     → FailsToTake files name fault
-takes_bad files None told said may source fault is same held stands honest fails = absurd cc
-takes_bad files (Some found) told said may source fault is same held stands honest fails =
-    let e : told ≡ found = cc in
-    let P : Text → Type 0 = λ t. IsHeld (files t) source.text in
-    inr (inr (source, subst P e held, (λ e. may_by files (Some found) told said may is same stands (honest e)), fails))
-
-pub runs_taken : (names : Option Text) (settings taken : Settings) (files : Named) (bg since : Option Text) (text : Input) (rest : Option (List ℕ)) (output : Written) (r : Result Summary RunFault)
-    → TakesNames files names settings taken → Runs taken files bg since text rest output r → RunsNamed names settings files bg since text rest output r
-unfolding RunsNamed
-runs_taken names settings taken files bg since text rest output r takes runs = inr (taken, takes, runs)
-
-pub runs_untaken : (names : Option Text) (settings : Settings) (files : Named) (bg since : Option Text) (rest held : Option (List ℕ)) (read write flushed abandoned : Bool) (fault : RunFault)
-    → read ≡ false → FailsToTake files names fault → RunsNamed names settings files bg since (input rest read) rest (written held held write flushed abandoned) (Err fault)
-unfolding RunsNamed
-runs_untaken names settings files bg since rest held read write flushed abandoned fault unread fails = inl (fault, refl, unread, refl, refl, fails)
-
--- ---- the program
-
-pub runs_to : (config : Config) (files : Named) (text : Input) (rest : Option (List ℕ)) (output errors : Written) (status : ℕ) (outcome : Result Summary RunFault) → status ≡ status_of outcome
-    → TellsOutcome output.abandoned errors outcome → RunsNamed (option_map string_bytes config.only_file) (settings_of config) files (option_map string_bytes config.bg) (option_map string_bytes config.since) text rest output outcome → RunsTo config files text rest output errors status
-unfolding RunsTo
-runs_to config files text rest output errors status outcome is told runs = (outcome, is, told, runs)
-
-pub nothing_told : (abandoned : Bool) (errors : Written) (summary : Summary) → errors.now ≡ errors.held → TellsOutcome abandoned errors (Ok summary)
-unfolding TellsOutcome
-nothing_told abandoned errors summary kept = kept
-
-pub fault_told : (abandoned : Bool) (errors : Written) (fault : RunFault) → TellsUnless (is_silent abandoned fault) errors fault → TellsOutcome abandoned errors (Err fault)
-unfolding TellsOutcome
-fault_told abandoned errors fault told = told
-
-pub fault_untold : (abandoned : Bool) (errors : Written) (fault : RunFault) → TellsOutcome abandoned errors (Err fault) → TellsUnless (is_silent abandoned fault) errors fault
-unfolding TellsOutcome
-fault_untold abandoned errors fault told = told
-
-pub ends_run : (words : Result (List Text) LineFault) (files : Named) (text : Input) (rest : Option (List ℕ)) (output errors : Written) (status : ℕ) (config : Config) → Asks words (Ok config)
-    → RunsTo config files text rest output errors status → Ends words files text rest output errors status
-unfolding Ends
-ends_run words files text rest output errors status config asked runs = (Ok config, asked, runs)
-
-pub ends_refused : (words : Result (List Text) LineFault) (files : Named) (text : Input) (rest : Option (List ℕ)) (output errors : Written) (status : ℕ) (fault : LineFault) → Asks words (Err fault)
-    → text.failed ≡ false → rest ≡ text.text → Refuses fault output errors status → Ends words files text rest output errors status
-unfolding Ends
-ends_refused words files text rest output errors status fault asked unread unbegun refuses = (Err fault, asked, (unread, unbegun, refuses))
-
--- what is known of one way in which it ends
-pub ends_somehow : (words : Result (List Text) LineFault) (text : Input) (rest : Option (List ℕ)) (output errors : Written) (status code : ℕ) → code ≡ status
-    → Ends words (λ name. unknown) text rest output errors status → EndsSomehow code
-unfolding EndsSomehow
-ends_somehow words text rest output errors status code is ends =
-    let P : ℕ → Type 0 = λ n. Ends words (λ name. unknown) text rest output errors n in
-    (words, text, rest, output, errors, subst P (sym is) ends)
+takes_bad files name told said may source fault is same held stands honest fails =
+    by_name (λ n. FailsToTake files n fault) name told said is same (inr (inr (source, held, (λ e. sym stands ∙ honest e), fails)))

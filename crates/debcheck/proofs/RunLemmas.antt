@@ -3,7 +3,7 @@ use Rattle.std.proofs.Common.{◌≡◌, ◌∙◌, ℕ, false, List, [], Option
 use Rattle.std.proofs.lemmas.Bool.{cases_Bool}
 use Rattle.deb_index.specs.Packages.{IndexView}
 use Rattle.deb_input.specs.declared.fault.RunFault.{RunFault}
-use Rattle.deb_input.specs.declared.fault.RunFault.TheVariants.{Read, TooLong, BackgroundRead, BackgroundTooLong, EarlierRead, EarlierTooLong, NamesRead, NamesTooLong, BadNameLine, Index, Background, Earlier, UnknownAsked, Slipped, Memory, Write}
+use Rattle.deb_input.specs.declared.fault.RunFault.TheVariants.{Read, TooLong, BackgroundRead, BackgroundTooLong, Index, Background, UnknownAsked, Slipped, Memory, Write}
 use Rattle.deb_report.specs.declared.summary.Summary.{Summary}
 use Rattle.deb_report.specs.Outcome.{asked_places}
 use Rattle.run_settings.specs.Settings.{Settings}
@@ -34,11 +34,6 @@ indexed-behind settings text background P BackgroundTooLong is has fails =
     let within = has.background_within in
     let over = (rw is at fails.1).1 in
     absurd (omega arith)
-indexed-behind settings text background P EarlierRead is has fails = absurd fails
-indexed-behind settings text background P EarlierTooLong is has fails = absurd fails
-indexed-behind settings text background P NamesRead is has fails = absurd fails
-indexed-behind settings text background P NamesTooLong is has fails = absurd fails
-indexed-behind settings text background P (BadNameLine line) is has fails = absurd fails
 indexed-behind settings text background P (Index fault) is has fails =
     let refused = fails.2 in
     let accepted = fore-of-both text background settings.arch settings.essential has.index has.is_index in
@@ -47,27 +42,12 @@ indexed-behind settings text background P (Background fault) is has fails =
     let refused = rw is at fails.3 in
     let accepted = has.is_index in
     cc
-indexed-behind settings text background P (Earlier fault) is has fails = absurd fails
-indexed-behind settings text background P (UnknownAsked name) is has fails = absurd fails
-indexed-behind settings text background P (Slipped slip) is has fails = absurd fails
 indexed-behind settings text background P Memory is has fails = refl
-indexed-behind settings text background P Write is has fails = absurd fails
+indexed-behind settings text background P fault is has fails = absurd fails
 
 -- the same of a run, where what is asked is known, too
 asked-behind : (settings : Settings) (text background : List ℕ) (fault : RunFault) → behind settings (input (Some background) false) ≡ input (Some background) false
     → HasIndex settings text background (HasAsked settings) → FailsAlone settings (input (Some text) false) (input (Some background) false) false fault → fault ≡ Memory
-asked-behind settings text background Read is has fails = indexed-behind settings text background (HasAsked settings) Read is has fails
-asked-behind settings text background TooLong is has fails = indexed-behind settings text background (HasAsked settings) TooLong is has fails
-asked-behind settings text background BackgroundRead is has fails = indexed-behind settings text background (HasAsked settings) BackgroundRead is has fails
-asked-behind settings text background BackgroundTooLong is has fails = indexed-behind settings text background (HasAsked settings) BackgroundTooLong is has fails
-asked-behind settings text background EarlierRead is has fails = absurd fails
-asked-behind settings text background EarlierTooLong is has fails = absurd fails
-asked-behind settings text background NamesRead is has fails = absurd fails
-asked-behind settings text background NamesTooLong is has fails = absurd fails
-asked-behind settings text background (BadNameLine line) is has fails = absurd fails
-asked-behind settings text background (Index fault) is has fails = indexed-behind settings text background (HasAsked settings) (Index fault) is has fails
-asked-behind settings text background (Background fault) is has fails = indexed-behind settings text background (HasAsked settings) (Background fault) is has fails
-asked-behind settings text background (Earlier fault) is has fails = absurd fails
 asked-behind settings text background (UnknownAsked name) is has fails =
     let accepted = has.is_index in
     let found = rw is at fails.1 in
@@ -91,10 +71,10 @@ asked-behind settings text background (Slipped slip) is has fails =
     let some = subst Q places slipped.2 in
     let none = has.holds.1.no_slip in
     cc
-asked-behind settings text background Memory is has fails = refl
 asked-behind settings text background Write is has fails =
     let failed = fails.0 in
     cc
+asked-behind settings text background fault is has fails = indexed-behind settings text background (HasAsked settings) fault is has fails
 
 -- a report is on an index of which something is asked
 has-asked : (settings : Settings) (earlier : Option (List ℕ)) (text background output : List ℕ) (summary : Summary) → IsReport settings earlier text background output summary

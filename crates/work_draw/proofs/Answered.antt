@@ -9,9 +9,8 @@ use Rattle.work_draw.specs.Checks.{AnswersEach, chunk_of, numbers_of}
 module _ {A B : Type 0} (R : A → B → Type 0) where
   pub AnswersEach-append : (xs xs' : List A) (ys ys' : List B) → AnswersEach R xs ys → AnswersEach R xs' ys' → AnswersEach R (xs ++ xs') (ys ++ ys')
   AnswersEach-append [] xs' [] ys' h h' = h'
-  AnswersEach-append [] xs' (y ∷ ys) ys' h h' = absurd h
-  AnswersEach-append (x ∷ xs) xs' [] ys' h h' = absurd h
   AnswersEach-append (x ∷ xs) xs' (y ∷ ys) ys' h h' = (h.0, AnswersEach-append xs xs' ys ys' h.1 h')
+  AnswersEach-append xs xs' ys ys' h h' = absurd h
 
   pub AnswersEach_more : (xs : List A) (i : ℕ) (d : A) (ys : List B) (y : B) → i < length xs → AnswersEach R (take i xs) ys → R (get_or xs i d) y → AnswersEach R (take (i + 1) xs) (ys ++ y ∷ [])
   AnswersEach_more xs i d ys y lt h here = subst (λ (l : List A). AnswersEach R l (ys ++ y ∷ [])) (sym (take_more xs i d lt)) (AnswersEach-append (take i xs) (get_or xs i d ∷ []) ys (y ∷ []) h (here, tt))
@@ -45,24 +44,21 @@ IfOk-both (Err e) P Q one other = tt
 module _ {A B C : Type 0} (R : A → B → Type 0) (S : A → C → Type 0) (view : B → C) (says : (a : A) (b : B) → R a b → S a (view b)) where
   pub AnswersEach-map : (xs : List A) (ys : List B) → AnswersEach R xs ys → AnswersEach S xs (map view ys)
   AnswersEach-map [] [] h = tt
-  AnswersEach-map [] (y ∷ ys) h = absurd h
-  AnswersEach-map (x ∷ xs) [] h = absurd h
   AnswersEach-map (x ∷ xs) (y ∷ ys) h = (says x y h.0, AnswersEach-map xs ys h.1)
+  AnswersEach-map xs ys h = absurd h
 
 -- what each answer has by itself, seen by view
 module _ {A B C : Type 0} (R : A → B → Type 0) (P : C → Type 0) (view : B → C) (says : (a : A) (b : B) → R a b → P (view b)) where
   pub AnswersEach-All : (xs : List A) (ys : List B) → AnswersEach R xs ys → All P (map view ys)
   AnswersEach-All [] [] h = All-nil P
-  AnswersEach-All [] (y ∷ ys) h = absurd h
-  AnswersEach-All (x ∷ xs) [] h = absurd h
   AnswersEach-All (x ∷ xs) (y ∷ ys) h = All-cons P (view y) (map view ys) (says x y h.0) (AnswersEach-All xs ys h.1)
+  AnswersEach-All xs ys h = absurd h
 
 -- there are as many answers as questions
 pub AnswersEach-length : {A B : Type 0} (R : A → B → Type 0) (xs : List A) (ys : List B) → AnswersEach R xs ys → length ys ≡ length xs
 AnswersEach-length R [] [] h = refl
-AnswersEach-length R [] (y ∷ ys) h = absurd h
-AnswersEach-length R (x ∷ xs) [] h = absurd h
 AnswersEach-length R (x ∷ xs) (y ∷ ys) h = ap suc (AnswersEach-length R xs ys h.1)
+AnswersEach-length R xs ys h = absurd h
 
 -- the first of those from a place on, cut twice, are a chunk
 pub chunk_cut : {A : Type 0} (asked : List A) (begin size count : ℕ) → count ≡ min (length (take (length asked - begin) (drop begin asked))) size

@@ -12,8 +12,7 @@ returns-clause-index g c =
     let text = input (g.S.Source.remaining c.args.reader.now) (g.S.Source.failed c.read_text.new.reader) in
     let background = input (g.B.Source.remaining c.args.background.now) (g.B.Source.failed c.read_behind.new.background) in
     let read = c.in_ok-outcome.ensures.text in
-    let first = read_whole (g.S.Source.remaining c.args.reader.now) (g.S.Source.remaining c.read_text.new.reader) (g.S.Source.failed c.read_text.new.reader) read.0
-    read.1.consumes read.1.ends (read.1.unfailed ∙ c.requires.reader) read.1.within in
+    let first = read_whole read.1 c.requires.reader in
     let makes = rw c.in_ok-index.was at c.finish-read.ensures.index in
     accepted-as (settings_of c.args.job.now.config.now) text background read.0 c.as_slice.result.now c.in_ok-index.index first (rw c.as_slice.ensures.value c.in-Ok.ensures.bytes) (makes read.0 read.2)
 
@@ -23,8 +22,7 @@ returns-in_err-index-clause-refused g c =
     let text = input (g.S.Source.remaining c.args.reader.now) (g.S.Source.failed c.read_text.new.reader) in
     let background = input (g.B.Source.remaining c.args.background.now) (g.B.Source.failed c.read_behind.new.background) in
     let read = c.in_ok-outcome.ensures.text in
-    let first = read_whole (g.S.Source.remaining c.args.reader.now) (g.S.Source.remaining c.read_text.new.reader) (g.S.Source.failed c.read_text.new.reader) read.0
-    read.1.consumes read.1.ends (read.1.unfailed ∙ c.requires.reader) read.1.within in
+    let first = read_whole read.1 c.requires.reader in
     let fails = rw c.in_err-index.was at c.finish-read.ensures.refused in
     rw (p.1, p.2) (accept-fails (settings_of c.args.job.now.config.now) text background read.0 c.as_slice.result.now c.in_err-index.field-0.0 first (rw c.as_slice.ensures.value c.in-Ok.ensures.bytes) (fails read.0 read.2))
 
@@ -53,8 +51,7 @@ returns-in-Err-clause-refused g c =
     let text = input (g.S.Source.remaining c.args.reader.now) (g.S.Source.failed c.read_text.new.reader) in
     let background = input (g.B.Source.remaining c.args.background.now) (g.B.Source.failed c.read_behind.new.background) in
     let read = c.in_ok-outcome.ensures.text in
-    let first = read_whole (g.S.Source.remaining c.args.reader.now) (g.S.Source.remaining c.read_text.new.reader) (g.S.Source.failed c.read_text.new.reader) read.0
-    read.1.consumes read.1.ends (read.1.unfailed ∙ c.requires.reader) read.1.within in
+    let first = read_whole read.1 c.requires.reader in
     (behind-fails (settings_of c.args.job.now.config.now) text background c.in-Err.fault (read-as text read.0 first) c.in-Err.ensures.refused).0
 
 pub returns-in-Err-clause-unbegun : goal.returns-in-Err-clause-unbegun
@@ -62,6 +59,5 @@ returns-in-Err-clause-unbegun g c unread =
     let text = input (g.S.Source.remaining c.args.reader.now) (g.S.Source.failed c.read_text.new.reader) in
     let background = input (g.B.Source.remaining c.args.background.now) (g.B.Source.failed c.read_behind.new.background) in
     let read = c.in_ok-outcome.ensures.text in
-    let first = read_whole (g.S.Source.remaining c.args.reader.now) (g.S.Source.remaining c.read_text.new.reader) (g.S.Source.failed c.read_text.new.reader) read.0
-    read.1.consumes read.1.ends (read.1.unfailed ∙ c.requires.reader) read.1.within in
+    let first = read_whole read.1 c.requires.reader in
     absurd (false≢true (sym (behind-fails (settings_of c.args.job.now.config.now) text background c.in-Err.fault (read-as text read.0 first) c.in-Err.ensures.refused).1 ∙ unread))

@@ -1,15 +1,16 @@
 use Rattle.std.proofs.Common.{◌∙◌, List, inr, refl, subst, ℕ}
+use Rattle.std.proofs.KnownBytes.{Keeps-refl}
 use Rattle.std.proofs.lemmas.Result.{err_from_is_err_and}
 use Rattle.std.specs.Io.KnownBytes.{Appends}
 use Rattle.devices.specs.Devices.{AppendsPart}
-use Rattle.debcheck.proofs.PhaseLemmas.{kept-itself, tells-none}
+use Rattle.debcheck.proofs.PhaseLemmas.{tells-none}
 use Rattle.debcheck.proofs.phases.report_and_write.Goals as goal
 
 pub returns-in_err-output-clause-tells : goal.returns-in_err-output-clause-tells
 returns-in_err-output-clause-tells g c =
     let p = err_from_is_err_and c.from_residual.result c.from_residual.ensures.1 in
     let h = rw c.in_err-output.was at c.check_and_tell-told.ensures.refused in
-    rw (p.1, p.2) (tells-none _ _ _ _ _ h (kept-itself _))
+    rw (p.1, p.2) (tells-none _ _ _ _ _ h (Keeps-refl _))
 
 pub returns-in-Ok-clause-tells : goal.returns-in-Ok-clause-tells
 returns-in-Ok-clause-tells g c =

@@ -1,32 +1,27 @@
 use Rattle.std.proofs.Common.{◌∙◌, None, refl, sym}
+use Rattle.std.proofs.KnownBytes.{Keeps-refl}
 use Rattle.std.proofs.lemmas.Bool.{false≢true}
 use Rattle.std.proofs.lemmas.Result.{IfErr-weaker, err_from_is_err_and}
 use Rattle.run_settings.specs.Settings.{settings_of}
 use Rattle.deb_input.specs.Inputs.{input}
-use Rattle.debcheck.proofs.PhaseLemmas.{all-read, kept-itself, runs-indexed, runs-unindexed}
+use Rattle.debcheck.proofs.PhaseLemmas.{all-read, runs-indexed, runs-unindexed}
 use Rattle.debcheck.proofs.phases.run_ending.Goals as goal
 
-pub returns-in_err-index-clause-runs : goal.returns-in_err-index-clause-runs
-returns-in_err-index-clause-runs g c =
+pub returns-in_err-index : goal.returns-in_err-index
+returns-in_err-index g c =
     let p = err_from_is_err_and c.from_residual.result c.from_residual.ensures.1 in
     let text = input (g.S.Source.remaining c.args.reader.now) (g.S.Source.failed c.read_index.new.reader) in
     let background = input (g.B.Source.remaining c.args.background.now) (g.B.Source.failed c.read_index.new.background) in
-    rw (p.1, p.2) (runs-unindexed (settings_of c.args.job.now.config.now) None text background None _ c.in_err-index.field-0.0 refl c.in_err-index.ensures.refused (kept-itself _))
-
-pub returns-in_err-index-clause-unbegun : goal.returns-in_err-index-clause-unbegun
-returns-in_err-index-clause-unbegun g c =
-    let p = err_from_is_err_and c.from_residual.result c.from_residual.ensures.1 in
-    rw (p.1, p.2) c.in_err-index.ensures.unbegun
-
-pub returns-in_err-index-clause-untouched : goal.returns-in_err-index-clause-untouched
-returns-in_err-index-clause-untouched g c =
-    let p = err_from_is_err_and c.from_residual.result c.from_residual.ensures.1 in
-    rw (p.1, p.2) (λ other. refl)
-
-pub returns-in_err-index-clause-may_fail : goal.returns-in_err-index-clause-may_fail
-returns-in_err-index-clause-may_fail g c =
-    let p = err_from_is_err_and c.from_residual.result c.from_residual.ensures.1 in
-    rw (p.1, p.2) c.in_err-index.ensures.may_fail
+    let fails = c.in_err-index.ensures in
+    rw (p.1, p.2) (record {
+      end = tt;
+      background_end = tt;
+      spared = c.read_index.ensures.spared;
+      unbegun = fails.unbegun;
+      untouched = λ other. refl;
+      runs = runs-unindexed (settings_of c.args.job.now.config.now) None text background None _ c.in_err-index.field-0.0 refl fails.refused (Keeps-refl _);
+      may_fail = fails.may_fail;
+    })
 
 pub returns-clause-runs : goal.returns-clause-runs
 returns-clause-runs g c =
