@@ -2,20 +2,12 @@
 
 ghost use Rattle.std.specs.Prelude.{◌≡◌, false};
 
+use crate::line::READING;
 use crate::runs::{Left, ONE_BY_ONE, run_line};
 use debcheck::{OpenFault, Recording};
 use std::process::Abort;
 use std::thread::Threads;
 use test_devices::{CHAIN, Cabinet, Held, Screen, clock_of, sink_of, source_of};
-
-/// What is told while the index is read, and where it is typed on a terminal.
-static READING: [(bool, &[u8]); 2] = [
-    (false, b"\rreading the index"),
-    (
-        true,
-        b"\rreading the index from the terminal (debcheck .. < Packages)",
-    ),
-];
 
 /// Whether a program told once, or never, that its index is read from a file, or from the terminal.
 fn expect_told(
