@@ -1,6 +1,6 @@
 -- Clauses that are added, one after another, and what they say together; and numbers that come to a list.
 use Rattle.std.proofs.Common.{◌≡◌, ◌⊎◌, ℕ, ◌+◌, ◌<◌, true, false, ◌||◌, eqb, List, [], ◌∷◌, ◌++◌, length, get_or, take, All, ◌↔◌, refl, sym, subst, ◌∙◌, ap, inl, inr, arith, append_assoc}
-use Rattle.std.proofs.lemmas.Bool.{false≢true, or_cases, or_left, or_right, eqb-true, eq-eqb}
+use Rattle.std.proofs.lemmas.Bool.{false≢true, or_cases, eqb-true}
 use Rattle.std.proofs.lemmas.List.{take_more, append-nil}
 use Rattle.std.proofs.lemmas.List.Elements.{All-nil, All-append}
 use Rattle.std.proofs.lemmas.List.Folds.{list_any-append}
@@ -8,6 +8,7 @@ use Rattle.number_sets.specs.Sets.{NumberSet, members_of}
 use Rattle.sat_solve.specs.Clauses.{Clauses, clause_holds}
 use Rattle.deb_encode.specs.Play.{Adds}
 use Rattle.number_sets.proofs.ListLemmas.{All-front, All-back}
+use Rattle.number_sets.proofs.MembersLemmas.{pushed_has, pushed_keeps}
 
 -- nothing is added, for what holds anyway
 pub adds_none : (group : ℕ) (Means : NumberSet → Type 0) (before : Clauses) → ((set : NumberSet) → Means set) → Adds group Means before before
@@ -59,22 +60,16 @@ in_push xs x q is_in =
       ]
     ]
 
-pub front_in : (xs : List ℕ) (x q : ℕ) → members_of xs q ≡ true → members_of (xs ++ x ∷ []) q ≡ true
-front_in xs x q is_in = list_any-append (λ member. eqb member q) xs (x ∷ []) ∙ or_left (members_of xs q) (eqb x q || false) is_in
-
-pub last_in : (xs : List ℕ) (x : ℕ) → members_of (xs ++ x ∷ []) x ≡ true
-last_in xs x = list_any-append (λ member. eqb member x) xs (x ∷ []) ∙ or_right (members_of xs x) (eqb x x || false) (or_left (eqb x x) false (eq-eqb x x refl))
-
 -- the front of a list, and one more of it
 module _ (xs : List ℕ) (i : ℕ) (inside : i < length xs) where
   pub taken_either : (q : ℕ) → members_of (take (i + 1) xs) q ≡ true → (members_of (take i xs) q ≡ true) ⊎ (get_or xs i 0 ≡ q)
   taken_either q is_in = in_push (take i xs) (get_or xs i 0) q (ap (λ list. members_of list q) (sym (take_more xs i 0 inside)) ∙ is_in)
 
   pub taken_before : (q : ℕ) → members_of (take i xs) q ≡ true → members_of (take (i + 1) xs) q ≡ true
-  taken_before q is_in = ap (λ list. members_of list q) (take_more xs i 0 inside) ∙ front_in (take i xs) (get_or xs i 0) q is_in
+  taken_before q is_in = ap (λ list. members_of list q) (take_more xs i 0 inside) ∙ pushed_keeps (take i xs) (get_or xs i 0) q is_in
 
   pub taken_last : members_of (take (i + 1) xs) (get_or xs i 0) ≡ true
-  taken_last = ap (λ list. members_of list (get_or xs i 0)) (take_more xs i 0 inside) ∙ last_in (take i xs) (get_or xs i 0)
+  taken_last = ap (λ list. members_of list (get_or xs i 0)) (take_more xs i 0 inside) ∙ pushed_has (take i xs) (get_or xs i 0)
 
 -- numbers below a limit, in a list that is another
 pub below_moved : (xs ys : List ℕ) (limit bound : ℕ) → xs ≡ ys → limit ≡ bound → All (λ q. q < bound) ys → All (λ q. q < limit) xs

@@ -38,12 +38,3 @@ pub tells_from : (A : Play → NumberSet → Type 0) (start now next : Encoder) 
 tells_from A start now next same is told =
     tells_as (λ play vars. IsSame start now × A play vars) A start next (λ vars. (λ both. both.1, λ a. (same, a)))
     (tells_both (λ play vars. IsSame start now) A start now next (tells_here (λ play vars. IsSame start now) start now same is (λ vars. same)) told)
-
--- what a new encoder added, said of what it was made of
-pub adds_first : (A : Play → NumberSet → Type 0) (play : Play) (group : ℕ) (before : Clauses) (encoder next : Encoder) → encoder.play ≡ play → encoder.group ≡ group → encoder.formula.now ≡ before → AddsVars A encoder next
-    → Adds group (A play) before next.formula.now
-adds_first A play group before encoder next same_play same_group is_before added =
-    let Of : Clauses → Type 0 = λ clauses. Adds encoder.group (A encoder.play) clauses next.formula.now in
-    let InGroup : ℕ → Type 0 = λ group. Adds group (A encoder.play) before next.formula.now in
-    let Over : Play → Type 0 = λ play. Adds group (A play) before next.formula.now in
-    subst Over same_play (subst InGroup same_group (subst Of is_before added.adds))

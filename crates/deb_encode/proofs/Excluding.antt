@@ -15,17 +15,18 @@ use Rattle.deb_encode.specs.Encoders.{KeepsOut}
 use Rattle.deb_encode.specs.Exclusions.{AreNotIn, AreNumbersOf}
 use Rattle.deb_index.specs.Constraints.{AreApart}
 use Rattle.number_sets.proofs.ListMembers.{members_of_at, at_members_of}
-use Rattle.deb_encode.proofs.AddLemmas.{in_push, front_in, last_in, taken_either, taken_before, taken_last}
+use Rattle.deb_encode.proofs.AddLemmas.{in_push, taken_either, taken_before, taken_last}
+use Rattle.number_sets.proofs.MembersLemmas.{pushed_has, pushed_keeps}
 use Rattle.number_sets.proofs.PositionsOf.{position_in, group_at, one_group}
 
 -- ---- what the clauses of an owner say
 
-pairs_out : (a b : Bool) → a ≡ true → b ≡ true → (not a || (not b || false)) ≡ true → ⊥
+pub pairs_out : (a b : Bool) → a ≡ true → b ≡ true → (not a || (not b || false)) ≡ true → ⊥
 pairs_out true true one other holds = false≢true holds
 pairs_out true false one other holds = false≢true other
 pairs_out false b one other holds = false≢true one
 
-pairs_held : (a b : Bool) → (a ≡ true → b ≡ true → ⊥) → (not a || (not b || false)) ≡ true
+pub pairs_held : (a b : Bool) → (a ≡ true → b ≡ true → ⊥) → (not a || (not b || false)) ≡ true
 pairs_held true true apart = absurd (apart refl refl)
 pairs_held true false apart = refl
 pairs_held false b apart = refl
@@ -211,10 +212,10 @@ module _ (candidates places : List ℕ) (i : ℕ) (inside : i < length places) w
             ];
         all = λ number within is_in.
             elim (taken_either places i inside (get_or candidates number 0) is_in) [
-              | inl old ↦ front_in before var number (so_far.all number within old)
+              | inl old ↦ pushed_keeps before var number (so_far.all number within old)
               | inr last ↦
                   let same : var ≡ number = one_group candidates rising var number var_inside within (var_is ∙ last) in
-                  ap (members_of (before ++ var ∷ [])) (sym same) ∙ last_in before var
+                  ap (members_of (before ++ var ∷ [])) (sym same) ∙ pushed_has before var
             ];
       })
 

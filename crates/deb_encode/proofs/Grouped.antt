@@ -4,7 +4,7 @@ use Rattle.std.proofs.lemmas.Bool.{cases_lt}
 use Rattle.std.proofs.lemmas.List.Elements.{All-nil, All-append, All-weaker}
 use Rattle.std.proofs.lemmas.Option.{slice_get_within, get_or_from_slice_get}
 use Rattle.deb_index.specs.declared.constraint.Constraint.{Constraint}
-use Rattle.deb_index.specs.Constraints.{Holds, IsOfIndex}
+use Rattle.deb_index.specs.Constraints.{Holds}
 use Rattle.number_sets.specs.Sets.{NumberSet}
 use Rattle.number_sets.proofs.ListLemmas.{All-front, All-back}
 use Rattle.sat_solve.specs.Clauses.{Clause, Clauses, clause_holds}
@@ -28,13 +28,6 @@ encoded_none play constraints formula is_empty =
       in_groups = All-nil (λ clause. clause.group < 0);
       says = λ vars group constraint never. absurd (omega (arith, never));
     })
-
--- the next one is of the index that an encoder over the same places has
-pub next_of_index : (play : Play) (constraints : List Constraint) (group : ℕ) (d : Constraint) (lent : Play) → lent ≡ play → All (IsOfIndex play.index.now) constraints → group < length constraints
-    → IsOfIndex lent.index.now (get_or constraints group d)
-next_of_index play constraints group d lent same of_index inside =
-    let Of : Play → Type 0 = λ other. IsOfIndex other.index.now (get_or constraints group d) in
-    subst Of (sym same) (of_index group d inside)
 
 module _ (play : Play) (constraints : List Constraint) (count : ℕ) (d : Constraint) (before after : Clauses) (so_far : EncodedTo play constraints count before)
     (adds : AddsPlaces count play.forced.now play.candidates.now (λ set. Holds play.index.now set (get_or constraints count d)) before after) (vars : NumberSet) where

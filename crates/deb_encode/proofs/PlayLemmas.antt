@@ -10,6 +10,7 @@ use Rattle.sat_solve.specs.Clauses.{clause_holds, literal_holds}
 use Rattle.number_sets.specs.Sets.{NumberSet, members_of, positions_of}
 use Rattle.deb_encode.specs.Play.{placed}
 use Rattle.deb_encode.specs.Exclusions.{Widens}
+use Rattle.number_sets.proofs.ListLemmas.{or_false}
 use Rattle.number_sets.proofs.ListMembers.{at_members_of}
 use Rattle.number_sets.proofs.PositionsOf.{group_at, same_position}
 
@@ -32,13 +33,9 @@ placed_out forced candidates place out free vars =
     let at = group_at candidates vars place is_in in
     both_ways (members_of candidates place) free (ap (members_of candidates) (sym at.3) ∙ at_members_of candidates at.0 at.1))
 
-or_none : (b : Bool) → (b || false) ≡ b
-or_none true = refl
-or_none false = refl
-
 settled : (anyway held said : Bool) → said ≡ anyway → (anyway || held) ≡ (held || said)
 settled true held said same = sym (or_right held said same)
-settled false held said same = sym (ap (λ b. held || b) same ∙ or_none held)
+settled false held said same = sym (ap (λ b. held || b) same ∙ or_false held)
 
 module _ (forced candidates : List ℕ) (place : ℕ) (positive : Bool) (before : List Lit) where
   abbrev WidensHere : List Lit → Bool → Type 0
@@ -73,5 +70,5 @@ module _ (forced candidates : List ℕ) (place : ℕ) (positive : Bool) (before 
         in_range = λ all. All-push (λ (literal : Lit). literal.var < length candidates) before lit all (slice_get_within candidates number place there);
         says = λ vars.
             list_any-append (literal_holds vars) before (lit ∷ [])
-            ∙ ap (λ b. clause_holds vars before || b) (or_none (literal_holds vars lit) ∙ ap (λ b. if positive then b else not b) (sym (placed_variable forced candidates rising place number out there vars)));
+            ∙ ap (λ b. clause_holds vars before || b) (or_false (literal_holds vars lit) ∙ ap (λ b. if positive then b else not b) (sym (placed_variable forced candidates rising place number out there vars)));
       })

@@ -1,7 +1,7 @@
 -- What the clauses that are added say of a constraint.
 use Rattle.std.proofs.Common.{◌≡◌, ◌⊎◌, ℕ, true, ◌||◌, ◌&&◌, not, eqb, All, ◌<◌, get_or, arith, List, ◌++◌, ◌↔◌, sym, subst, ◌∙◌, ap, inl, inr}
 use Rattle.std.specs.List.{list_any}
-use Rattle.std.proofs.lemmas.Bool.{both_ways, or_cases, or_left, or_right, not-true, and_parts, and_from}
+use Rattle.std.proofs.lemmas.Bool.{or_cases, or_left, or_right, and_parts, and_from}
 use Rattle.std.proofs.lemmas.List.Elements.{All-append}
 use Rattle.std.proofs.lemmas.List.Folds.{list_any-append}
 use Rattle.deb_index.specs.declared.constraint.Constraint.TheVariants.{Essential, Need, Apart}
@@ -47,9 +47,6 @@ module _ (index : IndexView) where
     need_says : (p j : ℕ) → ((not (set p) || list_any set (group_satisfiers index (need_at index p j))) ≡ true) ↔ Holds index set (Need p j)
     unfolding is_holding
     need_says p j = (holds-from-test index set (Need p j), test-from-holds index set (Need p j))
-
-    pub need_out : (p j : ℕ) → not (set p) ≡ true → Holds index set (Need p j)
-    need_out p j out = λ has. absurd (both_ways (set p) (not-true (set p) out) has)
 
     pub need_by_row : (p j : ℕ) (row : List ℕ) → row ≡ group_satisfiers index (need_at index p j) → ((not (set p) || list_any set row) ≡ true) ↔ Holds index set (Need p j)
     need_by_row p j row same = (let Of : List ℕ → Type 0 = λ list. ((not (set p) || list_any set list) ≡ true) ↔ Holds index set (Need p j) in subst Of (sym same) (need_says p j))

@@ -1,104 +1,75 @@
 -- Entries that very many packages may meet: gathered, and told run by run.
-use Rattle.std.proofs.Common.{◌≡◌, ℕ, ◌+◌, ◌<◌, ◌≤◌, Bool, true, false, ◌&&◌, eqb, List, [], ◌∷◌, ◌++◌, take, All, Contains, length, get_or, ◌↔◌, sym, subst, ◌∙◌, ap, inl, inr, arith}
-use Rattle.std.proofs.lemmas.Bool.{cases_Bool, cases_lt, false≢true, and_parts, and_from, both_ways, eqb-true, eq-eqb}
+use Rattle.std.proofs.Common.{◌≡◌, ◌⊎◌, ℕ, ◌+◌, ◌<◌, ◌≤◌, Bool, true, false, ◌&&◌, List, [], ◌∷◌, ◌++◌, take, All, Contains, length, get_or, ◌↔◌, sym, subst, ◌∙◌, ap, inl, inr, arith}
+use Rattle.std.proofs.lemmas.Bool.{cases_Bool, cases_lt, and_parts, and_from}
 use Rattle.std.proofs.lemmas.List.{get_or_default}
 use Rattle.std.proofs.lemmas.List.Elements.{All-push, All-contains, Contains-append_left, Contains-push}
 use Rattle.deb_index.specs.Packages.{IndexView, aparts_at, apart_at}
 use Rattle.deb_index.specs.Meets.{meets_at}
 use Rattle.number_sets.specs.Sets.{NumberSet, members_of}
-use Rattle.deb_encode.specs.declared.rivals.Entry.{Entry}
+use Rattle.deb_encode.specs.declared.gathered.Entry.{Entry}
 use Rattle.deb_encode.specs.Play.{placed}
 use Rattle.deb_encode.specs.Exclusions.{IsWide, EntryHolds, AddsWide, entry_at, IsRun, is_narrow, MeetsEntries, MeetsNarrow}
 use Rattle.deb_index.specs.Constraints.{IsAlone, AreApart}
-use Rattle.deb_encode.proofs.AddLemmas.{taken_either, in_push, front_in, last_in}
+use Rattle.deb_encode.proofs.AddLemmas.{taken_either, in_push}
+use Rattle.number_sets.proofs.MembersLemmas.{pushed_has, pushed_keeps}
 use Rattle.deb_encode.proofs.Told.{in_play_placed}
 
 abbrev entry_of : ℕ → ℕ → Entry
 entry_of place number = record { place = place; number = number }
 
--- ---- the wide entries of a place, one after the other
+-- ---- wide entries, one after the other
 
-pub record ListsWide (index : IndexView) (place limit : ℕ) (before after : List Entry) : Type 0 where
-  pub wide : All (IsWide index) before → All (IsWide index) after
-  pub kept : (entry : Entry) → Contains before entry → Contains after entry
-  pub all : (j : ℕ) → j < limit → is_narrow index place j ≡ false → Contains after (record { place = place; number = j })
+module _ (index : IndexView) where
+  -- nothing need come where all that is asked for stands alone
+  pub wide_none : (IsAsked : ℕ → ℕ → Type 0) (entries : List Entry) → ((q j : ℕ) → IsAsked q j → is_narrow index q j ≡ false → IsAlone index q) → AddsWide index IsAsked entries entries
+  wide_none IsAsked entries none = record { wide = λ all. all; kept = λ entry there. there; all = λ q j asked less is_wide. inl (none q j asked is_wide) }
 
-pub lists_none : (index : IndexView) (place : ℕ) (entries : List Entry) → ListsWide index place 0 entries entries
-lists_none index place entries = record { wide = λ all. all; kept = λ entry there. there; all = λ j never. absurd (omega (arith, never)) }
+  pub wide_one : (place number : ℕ) (before after : List Entry) → place < length index.packages → number < length (aparts_at index place) → is_narrow index place number ≡ false
+      → after ≡ before ++ record { place = place; number = number } ∷ [] → AddsWide index (λ q j. (place ≡ q) × (number ≡ j)) before after
+  wide_one place number before after inside numbered wide after_is =
+      let entry : Entry = entry_of place number in
+      let Has : ℕ → ℕ → Type 0 = λ q j. Contains (before ++ entry ∷ []) (entry_of q j) in
+      subst (AddsWide index (λ q j. (place ≡ q) × (number ≡ j)) before) (sym after_is) (record {
+        wide = λ all. All-push (IsWide index) before entry all (record { of_place = inside; numbered = numbered; wide = wide });
+        kept = λ one there. Contains-append_left before (entry ∷ []) one there;
+        all = λ q j asked less is_wide. inr (subst (Has q) asked.1 (subst (λ p. Has p number) asked.0 (Contains-push before entry)));
+      })
 
-pub lists_more : (index : IndexView) (place number : ℕ) (before between after : List Entry) → place < length index.packages → number < length (aparts_at index place) → is_narrow index place number ≡ false
-    → after ≡ between ++ record { place = place; number = number } ∷ [] → ListsWide index place number before between → ListsWide index place (number + 1) before after
-lists_more index place number before between after inside numbered wide after_is so_far =
-    let entry : Entry = entry_of place number in
-    let more : ListsWide index place (number + 1) before (between ++ entry ∷ []) = record {
-      wide = λ all. All-push (IsWide index) between entry (so_far.wide all) (record { of_place = inside; numbered = numbered; wide = wide });
-      kept = λ one there. Contains-append_left between (entry ∷ []) one (so_far.kept one there);
-      all = λ j less is_wide.
-          elim (cases_lt j number) [
-            | inl old ↦ Contains-append_left between (entry ∷ []) (entry_of place j) (so_far.all j old is_wide)
-            | inr last ↦
-                let same : number ≡ j = omega (arith, last, less) in
-                let At : ℕ → Type 0 = λ n. Contains (between ++ entry ∷ []) (entry_of place n) in
-                subst At same (Contains-push between entry)
-          ];
-    } in
-    let For : List Entry → Type 0 = λ list. ListsWide index place (number + 1) before list in
-    subst For (sym after_is) more
-
-pub lists_passed : (index : IndexView) (place number : ℕ) (before between : List Entry) → is_narrow index place number ≡ true
-    → ListsWide index place number before between → ListsWide index place (number + 1) before between
-lists_passed index place number before between narrow so_far = record {
-  wide = so_far.wide;
-  kept = so_far.kept;
-  all = λ j less is_wide.
-      elim (cases_lt j number) [
-        | inl old ↦ so_far.all j old is_wide
-        | inr last ↦
-            let same : j ≡ number = omega (arith, last, less) in
-            absurd (both_ways (is_narrow index place j) is_wide (ap (is_narrow index place) same ∙ narrow))
-      ];
-}
-
-pub lists_whole : (index : IndexView) (place number : ℕ) (before after : List Entry) → length (aparts_at index place) ≤ number → ListsWide index place number before after → AddsWide index (λ q. eqb q place) before after
-lists_whole index place number before after past lists = record {
-  wide = lists.wide;
-  kept = lists.kept;
-  all = λ q is_place.
-      let same : place ≡ q = sym (eqb-true q place is_place) in
-      let All_of : ℕ → Type 0 = λ p. (j : ℕ) → j < length (aparts_at index p) → is_narrow index p j ≡ false → Contains after (entry_of p j) in
-      inr (subst All_of same (λ j less is_wide. lists.all j (omega (arith, less, past)) is_wide));
-}
-
--- ---- place after place
-
-pub wide_none : (index : IndexView) (entries : List Entry) → AddsWide index (members_of []) entries entries
-wide_none index entries = record { wide = λ all. all; kept = λ entry there. there; all = λ q is_in. absurd (false≢true is_in) }
-
-module _ (index : IndexView) (places : List ℕ) (i x : ℕ) (inside : i < length places) (here : x ≡ get_or places i 0) (before between : List Entry) (so_far : AddsWide index (members_of (take i places)) before between) where
-  pub wide_more : (after : List Entry) → AddsWide index (λ q. eqb q x) between after → AddsWide index (members_of (take (i + 1) places)) before after
-  wide_more after one = record {
-    wide = λ all. one.wide (so_far.wide all);
-    kept = λ entry there. one.kept entry (so_far.kept entry there);
-    all = λ q is_in.
-        elim (taken_either places i inside q is_in) [
-          | inl old ↦ elim (so_far.all q old) [
+  -- what is asked for in two steps
+  wide_both : (First Second IsAsked : ℕ → ℕ → Type 0) (before between after : List Entry) → ((q j : ℕ) → IsAsked q j → First q j ⊎ Second q j)
+      → AddsWide index First before between → AddsWide index Second between after → AddsWide index IsAsked before after
+  wide_both First Second IsAsked before between after split first second = record {
+    wide = λ all. second.wide (first.wide all);
+    kept = λ entry there. second.kept entry (first.kept entry there);
+    all = λ q j asked less is_wide.
+        elim (split q j asked) [
+          | inl old ↦ elim (first.all q j old less is_wide) [
             | inl alone ↦ inl alone
-            | inr each ↦ inr (λ j less is_wide. one.kept (entry_of q j) (each j less is_wide))
+            | inr there ↦ inr (second.kept (entry_of q j) there)
           ]
-          | inr last ↦ one.all q (eq-eqb q x (sym (here ∙ last)))
+          | inr new ↦ second.all q j new less is_wide
         ];
   }
 
-  pub wide_passed : IsAlone index x → AddsWide index (members_of (take (i + 1) places)) before between
-  wide_passed alone = record {
-    wide = so_far.wide;
-    kept = so_far.kept;
-    all = λ q is_in.
-        elim (taken_either places i inside q is_in) [
-          | inl old ↦ so_far.all q old
-          | inr last ↦ (let Alone : ℕ → Type 0 = λ p. IsAlone index p in inl (subst Alone (here ∙ last) alone))
-        ];
-  }
+  -- entry after entry of a place
+  pub wide_next : (place number : ℕ) (before between after : List Entry) → AddsWide index (λ q j. (place ≡ q) × (j < number)) before between
+      → AddsWide index (λ q j. (place ≡ q) × (number ≡ j)) between after → AddsWide index (λ q j. (place ≡ q) × (j < number + 1)) before after
+  wide_next place number before between after =
+      wide_both _ _ (λ q j. (place ≡ q) × (j < number + 1)) before between after
+      (λ q j asked. elim (cases_lt j number) [
+        | inl old ↦ inl (asked.0, old)
+        | inr past ↦ inr (asked.0, omega (arith, asked.1))
+      ])
+
+  -- place after place
+  pub wide_place : (places : List ℕ) (i x : ℕ) → i < length places → x ≡ get_or places i 0 → (before between after : List Entry)
+      → AddsWide index (λ q j. members_of (take i places) q ≡ true) before between → AddsWide index (λ q j. x ≡ q) between after → AddsWide index (λ q j. members_of (take (i + 1) places) q ≡ true) before after
+  wide_place places i x inside here before between after =
+      wide_both _ _ (λ q j. members_of (take (i + 1) places) q ≡ true) before between after
+      (λ q j asked. elim (taken_either places i inside q asked) [
+        | inl old ↦ inl old
+        | inr last ↦ inr (here ∙ last)
+      ])
 
 -- ---- a run of entries of one atom
 
@@ -119,8 +90,8 @@ module _ (index : IndexView) (entries : List Entry) (start : ℕ) where
             ];
         owned = λ k from below.
             elim (cases_lt k end) [
-              | inl old ↦ front_in before place (entry_at entries k).place (run.owned k from old)
-              | inr new ↦ subst Owned (last k new below) (last_in before place)
+              | inl old ↦ pushed_keeps before place (entry_at entries k).place (run.owned k from old)
+              | inr new ↦ subst Owned (last k new below) (pushed_has before place)
             ];
         only = λ q there.
             elim (in_push before place q there) [
@@ -170,25 +141,25 @@ module _ (index : IndexView) (forced candidates : List ℕ) (vars : NumberSet) (
 
 -- ---- all entries of the places in play
 
-pub all_wide : (index : IndexView) (places : NumberSet) (start entries : List Entry) → start ≡ [] → AddsWide index places start entries → All (IsWide index) entries
-all_wide index places start entries empty lists = lists.wide (λ k d inside. absurd (omega (arith, inside, ap length empty)))
+pub all_wide : (index : IndexView) (IsAsked : ℕ → ℕ → Type 0) (start entries : List Entry) → start ≡ [] → AddsWide index IsAsked start entries → All (IsWide index) entries
+all_wide index IsAsked start entries empty lists = lists.wide (λ k d inside. absurd (omega (arith, inside, ap length empty)))
 
-pub entries_say : (index : IndexView) (forced candidates : List ℕ) (vars : NumberSet) (start entries : List Entry) → start ≡ [] → AddsWide index (members_of (forced ++ candidates)) start entries
+pub entries_say : (index : IndexView) (forced candidates : List ℕ) (vars : NumberSet) (start entries : List Entry) → start ≡ [] → AddsWide index (λ q j. members_of (forced ++ candidates) q ≡ true) start entries
     → ((((q : ℕ) → members_of (forced ++ candidates) q ≡ true → MeetsNarrow index (placed forced candidates vars) q) × All (EntryHolds index (placed forced candidates vars)) entries)
     ↔ ((q : ℕ) → members_of (forced ++ candidates) q ≡ true → MeetsEntries index (placed forced candidates vars) q))
 entries_say index forced candidates vars start entries empty lists = (
   λ both q in_play j less.
       elim (cases_Bool (is_narrow index q j)) [
         | inl narrow ↦ both.0 q in_play j less narrow
-        | inr is_wide ↦ elim (lists.all q in_play) [
+        | inr is_wide ↦ elim (lists.all q j in_play less is_wide) [
           | inl alone ↦ λ has r r_in hit. alone.hits_none j less r hit
-          | inr each ↦ All-contains (EntryHolds index (placed forced candidates vars)) entries (entry_of q j) both.1 (each j less is_wide)
+          | inr there ↦ All-contains (EntryHolds index (placed forced candidates vars)) entries (entry_of q j) both.1 there
         ]
       ],
   λ all. (
     λ q in_play j less narrow. all q in_play j less,
     λ k d inside p_in.
-        let entry = all_wide index (members_of (forced ++ candidates)) start entries empty lists k d inside in
+        let entry = all_wide index (λ q j. members_of (forced ++ candidates) q ≡ true) start entries empty lists k d inside in
         all (get_or entries k d).place (in_play_placed forced candidates vars (get_or entries k d).place p_in) (get_or entries k d).number entry.numbered p_in,
   ),
 )

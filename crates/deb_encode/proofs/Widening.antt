@@ -1,5 +1,5 @@
 -- Clauses in the making, and what is added with them.
-use Rattle.std.proofs.Common.{◌≡◌, ℕ, zero, suc, ◌+◌, ◌<◌, ◌≤◌, Bool, true, false, ◌||◌, List, [], ◌∷◌, length, get_or, take, All, not, ◌↔◌, refl, sym, subst, ◌∙◌, ap, inl, inr, arith}
+use Rattle.std.proofs.Common.{◌≡◌, ℕ, zero, suc, ◌+◌, ◌<◌, ◌≤◌, Bool, true, false, ◌||◌, List, [], ◌∷◌, length, get_or, take, All, ◌↔◌, sym, subst, ◌∙◌, ap, inl, inr, arith}
 use Rattle.std.specs.List.{list_any}
 use Rattle.std.proofs.lemmas.Bool.{false≢true, or_cases, or_left, or_right}
 use Rattle.std.proofs.lemmas.List.Folds.{list_any_more}
@@ -11,11 +11,8 @@ use Rattle.deb_encode.specs.declared.play.Play.{Play}
 use Rattle.deb_encode.specs.Encoders.{IsSame, AddsVars}
 use Rattle.deb_encode.specs.Exclusions.{Widens}
 use Rattle.deb_encode.proofs.EncoderLemmas.{tells_here, tells_as, tells_from}
+use Rattle.number_sets.proofs.ListLemmas.{or_assoc}
 use Rattle.number_sets.proofs.ListMembers.{take_whole}
-
-or_assoc : (a b c : Bool) → ((a || b) || c) ≡ (a || (b || c))
-or_assoc true b c = refl
-or_assoc false b c = refl
 
 any_kept : {A : Type 0} (test : A → Bool) (i : ℕ) (xs : List A) → list_any test (take i xs) ≡ true → list_any test xs ≡ true
 any_kept test zero xs holds = absurd (false≢true holds)
@@ -120,9 +117,3 @@ module _ (A : Play → NumberSet → Type 0) (count : ℕ) (test : NumberSet →
         λ means. same_test ∙ (says vars).1 means,
       ))
       (tells_from (λ play vars. (anyway || clause_holds vars clause) ≡ true) start now next same is told)
-
--- of two places not both are in
-pub not_both_says : (a b : Bool) → ((not a || not b) ≡ true) ↔ (a ≡ true → b ≡ true → ⊥)
-not_both_says true true = (λ holds has also. false≢true holds, λ apart. absurd (apart refl refl))
-not_both_says true false = (λ holds has also. false≢true also, λ apart. refl)
-not_both_says false b = (λ holds has also. false≢true has, λ apart. refl)

@@ -38,11 +38,15 @@ Tells Means before after = AddsVars (λ play vars. Means play (set_of play vars)
 abbrev pub KeepsOut : ℕ → List ℕ → NumberSet → Type 0
 KeepsOut place list set = (q : ℕ) → members_of list q ≡ true → set place ≡ true → set q ≡ true → q ≡ place
 
+-- a place is in the set that the variables stand for, or is out
+abbrev pub stands : Play → NumberSet → Bool → NumberSet
+stands play vars positive q = if positive then set_of play vars q else not (set_of play vars q)
+
 -- a clause was made to hold where a place is in, too, or where it is out
 abbrev pub WidensByPlace : Play → ℕ → Bool → List Lit → List Lit → Bool → Type 0
-WidensByPlace play place positive before after anyway =
-    Widens (λ vars. if positive then set_of play vars place else not (set_of play vars place)) (length play.candidates.now) before after anyway
+WidensByPlace play place positive before after anyway = Widens (λ vars. stands play vars positive place) (length play.candidates.now) before after anyway
 
--- a clause was made to hold where one of these places is in, too
-abbrev pub WidensBySome : Play → List ℕ → List Lit → List Lit → Bool → Type 0
-WidensBySome play places before after anyway = Widens (λ vars. list_any (set_of play vars) places) (length play.candidates.now) before after anyway
+-- a clause was made to hold where one of these places is in, too, or where one is out
+abbrev pub WidensBySome : Play → List ℕ → Bool → List Lit → List Lit → Bool → Type 0
+WidensBySome play places positive before after anyway =
+    Widens (λ vars. list_any (λ q. stands play vars positive q) places) (length play.candidates.now) before after anyway

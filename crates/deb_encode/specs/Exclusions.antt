@@ -8,7 +8,7 @@ use Rattle.sat_solve.specs.declared.clause.Lit.{Lit}
 use Rattle.number_sets.specs.Sets.{NumberSet, members_of}
 use Rattle.sat_solve.specs.Clauses.{clause_holds}
 use Rattle.std.specs.Str.{bytes_eq}
-use Rattle.deb_encode.specs.declared.rivals.Entry.{Entry}
+use Rattle.deb_encode.specs.declared.gathered.Entry.{Entry}
 
 -- a clause was made to hold where a test passes, too: it does so by its literals, or it holds anyway
 pub record Widens (test : NumberSet → Bool) (count : ℕ) (before after : List Lit) (anyway : Bool) : Type 0 where
@@ -70,12 +70,11 @@ pub record IsWide (index : IndexView) (entry : Entry) : Type 0 where
 abbrev pub EntryHolds : IndexView → NumberSet → Entry → Type 0
 EntryHolds index set entry = Holds index set (Apart entry.place entry.number)
 
--- the wide entries of these places came to a list, but for those of places that stand alone
-pub record AddsWide (index : IndexView) (places : NumberSet) (before after : List Entry) : Type 0 where
+-- wide entries came to a list: all that are asked for, but for those of places that stand alone
+pub record AddsWide (index : IndexView) (IsAsked : ℕ → ℕ → Type 0) (before after : List Entry) : Type 0 where
   pub wide : All (IsWide index) before → All (IsWide index) after
   pub kept : (entry : Entry) → Contains before entry → Contains after entry
-  pub all : (q : ℕ) → places q ≡ true → IsAlone index q
-      ⊎ ((j : ℕ) → j < length (aparts_at index q) → is_narrow index q j ≡ false → Contains after (record { place = q; number = j }))
+  pub all : (q j : ℕ) → IsAsked q j → j < length (aparts_at index q) → is_narrow index q j ≡ false → IsAlone index q ⊎ Contains after (record { place = q; number = j })
 
 -- the entry at an index of a list
 abbrev pub entry_at : List Entry → ℕ → Entry

@@ -1,6 +1,6 @@
 //! What an entry of Conflicts or Breaks hits, as clauses over the places in play.
 
-ghost use Rattle.std.specs.Prelude.{◌≡◌, ◌<◌, ◌&&◌, true, OnOk, length};
+ghost use Rattle.std.specs.Prelude.{◌≡◌, ◌<◌, ◌&&◌, OnOk, length};
 ghost use Rattle.deb_relation.specs.Relationship.{atom_view};
 ghost use Rattle.deb_index.specs.Packages.{aparts_at};
 ghost use Rattle.deb_index.specs.Meets.{meets_at};
@@ -33,25 +33,13 @@ pub(crate) fn list_meeting(
 }
 
 impl Encoder<'_> {
-    /// Adds that two places are not both in.
-    fn add_not_both(&mut self, place: u32, other: u32) -> Result<(), AllocError>
-        ensures { OnOk result (Tells (λ play set. set place ≡ true → set other ≡ true → ⊥) self.old self.new) }
-    {
-        self.clause.clear();
-        if self.play.or_place(place, false, self.clause)? {
-            return Ok(());
-        }
-        let anyway = self.play.or_place(other, false, self.clause)?;
-        self.add_unless(anyway)
-    }
-
     /// Adds that a place is not in together with another one of a row.
     pub(crate) fn add_apart_from(&mut self, place: u32, row: &[u32]) -> Result<(), AllocError>
         ensures { OnOk result (Tells (λ play. KeepsOut place row.now) self.old self.new) }
     {
         for other in row {
             if *other != place {
-                self.add_not_both(place, *other)?;
+                self.add_if(place, &[*other], false)?;
             }
         }
         Ok(())

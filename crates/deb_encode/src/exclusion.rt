@@ -7,16 +7,10 @@ ghost use Rattle.deb_encode.specs.Exclusions.{AreNotIn, AreNumbersOf};
 ghost use Rattle.deb_index.specs.Constraints.{AreApart};
 
 use crate::encoder::Encoder;
+use crate::gathered::Exclusion;
 use crate::play::Play;
 use sat_solve::Owner;
 use std::alloc::AllocError;
-
-/// The buffers of a list of variables that exclude each other, and of those of them that are owners.
-#[derive(Drop)]
-pub(crate) struct Exclusion {
-    pub(crate) list: Vec<u32>,
-    pub(crate) owners: Vec<Owner>,
-}
 
 /// Lists the variables of those places that have one.
 fn list_variables(play: &Play<'_>, places: &[u32], list: &mut Vec<u32>) -> Result<(), AllocError>

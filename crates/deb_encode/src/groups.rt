@@ -5,7 +5,8 @@ ghost use Rattle.deb_index.specs.Constraints.{Holds, IsOfIndex};
 ghost use Rattle.deb_encode.specs.Encoders.{Tells};
 ghost use Rattle.deb_encode.specs.Play.{TellsPlaces};
 
-use crate::encoder::{Encoder, Gathered};
+use crate::encoder::Encoder;
+use crate::gathered::Gathered;
 use crate::play::Play;
 use deb_index::Constraint;
 use sat_solve::{Formula, Lit};
@@ -23,7 +24,7 @@ impl Encoder<'_> {
     {
         match constraint {
             Constraint::Essential(name) => self.add_essential(name),
-            Constraint::Need(place, number) => self.add_need(place, number),
+            Constraint::Need(place, number) => self.add_need(place, number, gathered),
             Constraint::Apart(place, number) => self.add_apart(place, number, &mut gathered.places),
             Constraint::Only(name) => self.add_only(
                 name,
@@ -36,13 +37,12 @@ impl Encoder<'_> {
 
 /// Adds the clauses of each constraint in the group with its number: they hold in just the sets of variables whose places meet it.
 ///
-/// The constraints are of the index of the places in play, and there are as many as the formula has groups. `clause`, `found` and `gathered`
-/// are buffers. The error is want of memory.
+/// The constraints are of the index of the places in play, and there are as many as the formula has groups. `clause` and `gathered` are buffers.
+/// The error is want of memory.
 pub fn encode_each(
     play: &Play<'_>,
     constraints: &[Constraint],
     clause: &mut Vec<Lit>,
-    found: &mut Vec<u32>,
     gathered: &mut Gathered,
     formula: &mut Formula,
 ) -> Result<(), AllocError>
@@ -53,7 +53,12 @@ pub fn encode_each(
     ensures tells { OnOk result (TellsPlaces play.now.index.now play.now.forced.now play.now.candidates.now constraints.now formula.new.clauses) }
 {
     for group in 0..formula.groups() {
-        let mut encoder = Encoder::new(*play, formula, group, clause, found);
+        let mut encoder = Encoder {
+            play: *play,
+            formula,
+            group,
+            clause,
+        };
         encoder.add_constraint(constraints[group as usize], gathered)?;
     }
     Ok(())

@@ -3,9 +3,10 @@
 //! The modules in reading order:
 //!
 //! - `play` has the places in play, and makes a clause hold where a place is in, or out.
-//! - `encoder` holds them and the formula that it adds to. Its calls stand by topic: each adds clauses that hold in just the sets that meet
-//!   one thing.
-//! - `needs` adds what an essential name or a need says, `conflicts` what an entry of Conflicts or Breaks says.
+//! - `gathered` has the buffers that one call leaves to the next.
+//! - `encoder` holds the places and the formula that it adds to. Its calls stand by topic: each adds clauses that hold in just the sets that meet
+//!   one thing. Here are those for an essential name and a need.
+//! - `conflicts` adds what an entry of Conflicts or Breaks says.
 //! - `exclusion` tells that of some places one at most is in; by it `versions` adds that a name stands once.
 //! - `rivals` adds what all entries of the places in play say: those that hit few packages each by itself, the others by lists.
 //! - `groups` adds each constraint of a list in a group of its own.
@@ -14,12 +15,13 @@
 mod conflicts;
 mod encoder;
 mod exclusion;
+mod gathered;
 mod groups;
-mod needs;
 mod play;
 mod rivals;
 mod versions;
 
-pub use encoder::{Encoder, Gathered};
+pub use encoder::Encoder;
+pub use gathered::Gathered;
 pub use groups::encode_each;
 pub use play::Play;

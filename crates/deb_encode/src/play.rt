@@ -27,7 +27,7 @@ pub struct Play<'a> {
 }
 
 impl<'a> Play<'a> {
-    ghost use Rattle.deb_encode.specs.Encoders.{WidensByPlace, all_places};
+    ghost use Rattle.deb_encode.specs.Encoders.{WidensByPlace, WidensBySome, all_places};
 
     /// The places in play. Both sets have places of the index, and the candidates rise.
     ///
@@ -76,6 +76,23 @@ impl<'a> Play<'a> {
             var: number as u32,
             positive,
         })?;
+        Ok(false)
+    }
+
+    /// Makes a clause hold where one of some places is in, too, or where one is out. `true`: it holds anyway, whatever its literals say.
+    pub(crate) fn or_some(
+        &self,
+        places: &[u32],
+        positive: bool,
+        clause: &mut Vec<Lit>,
+    ) -> Result<bool, AllocError>
+        ensures { IfOk result (λ anyway. WidensBySome self.now places.now positive clause.old.items clause.new.items anyway) }
+    {
+        for place in places {
+            if self.or_place(*place, positive, clause)? {
+                return Ok(true);
+            }
+        }
         Ok(false)
     }
 

@@ -1,28 +1,21 @@
 //! What the entries of all places in play say: those that hit few packages each by itself. Of the others each atom is told once, with all the
 //! places that keep out what meets it.
 
-ghost use Rattle.std.specs.Prelude.{◌≡◌, ℕ, ◌<◌, ◌≤◌, ◌==◌, not, true, None, All, IfOk, OnOk, length};
+ghost use Rattle.std.specs.Prelude.{◌≡◌, ℕ, ◌<◌, ◌≤◌, not, true, None, All, IfOk, OnOk, length};
 ghost use Rattle.deb_relation.specs.Relationship.{atom_view};
 ghost use Rattle.deb_index.specs.Packages.{apart_at, aparts_at};
 ghost use Rattle.deb_encode.specs.Encoders.{Tells, in_play};
 ghost use Rattle.deb_encode.specs.Exclusions.{IsWide, EntryHolds, AddsWide, IsRun, is_narrow, MeetsEntries, MeetsNarrow};
 
 use crate::conflicts::list_meeting;
-use crate::encoder::{Encoder, Gathered};
-use crate::exclusion::Exclusion;
+use crate::encoder::Encoder;
+use crate::gathered::{Entry, Exclusion, Gathered};
 use deb_index::Index;
 use deb_relation::Atom;
 use std::alloc::AllocError;
 
 // How many packages an entry hits at most that gets a clause for each of them. Where it hits more, a list serves all who hit the same.
 const NARROW_LIMIT: usize = 64;
-
-/// An entry: the place whose it is, and its number there.
-#[derive(Clone, Copy)]
-pub(crate) struct Entry {
-    place: u32,
-    number: u32,
-}
 
 /// Whether an entry hits many packages.
 fn is_wide(index: &Index, place: u32, number: u32) -> bool
@@ -91,7 +84,7 @@ impl Encoder<'_> {
     ) -> Result<(), AllocError>
         requires place { place < length self.old.play.index.now.packages }
         ensures adds { OnOk result (Tells (λ play set. MeetsNarrow play.index.now set place) self.old self.new) }
-        ensures wide { OnOk result (AddsWide self.old.play.index.now (λ q. q == place) entries.old.items entries.new.items) }
+        ensures wide { OnOk result (AddsWide self.old.play.index.now (λ q j. place ≡ q) entries.old.items entries.new.items) }
     {
         let index = self.play.index;
         for number in 0..index.apart_count(place) {

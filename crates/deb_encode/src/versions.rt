@@ -6,8 +6,8 @@ ghost use Rattle.deb_index.specs.Constraints.{Holds, HasOneVersion};
 ghost use Rattle.deb_encode.specs.Encoders.{Tells, in_play};
 ghost use Rattle.deb_encode.specs.Exclusions.{Lists, AreNamesOf, is_of_name};
 
-use crate::encoder::{Encoder, Gathered};
-use crate::exclusion::Exclusion;
+use crate::encoder::Encoder;
+use crate::gathered::{Exclusion, Gathered};
 use crate::play::Play;
 use deb_index::{Constraint, Index};
 use number_sets::SparseSet;

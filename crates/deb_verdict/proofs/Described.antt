@@ -20,17 +20,7 @@ use Rattle.deb_verdict.specs.declared.gather.Candidates.{Candidates}
 use Rattle.deb_verdict.specs.Closure.{IsGathered}
 use Rattle.deb_encode.proofs.Told.{in_play_either, in_play_placed, in_play_within}
 use Rattle.deb_encode.proofs.Each.{added_vars, added_groups, added_in_group, added_says}
-use Rattle.deb_encode.proofs.EncoderLemmas.{tells_as, tells_both, adds_first}
-
-pub unmet_of : (index : IndexView) (forced : List ℕ) (candidates : Candidates) → IsGathered index (members_of forced) candidates → AreUnmet index forced candidates.places candidates.unmet.items
-unmet_of index forced candidates gathered = (
-  gathered.needs,
-  λ place j less is_in.
-      elim (gathered.told place j less is_in) [
-        | inl one ↦ inl one
-        | inr all ↦ inr all.1
-      ],
-)
+use Rattle.deb_encode.proofs.EncoderLemmas.{tells_as, tells_both}
 
 -- what is said of the places in play, where these are others by name alone
 pub carry : (P : IndexView → List ℕ → List ℕ → Type 0) (index index_too : IndexView) (forced forced_too candidates candidates_too : List ℕ) → index ≡ index_too → forced ≡ forced_too → candidates ≡ candidates_too
@@ -40,6 +30,19 @@ carry P index index_too forced forced_too candidates candidates_too same_index s
     let Forced : List ℕ → Type 0 = λ list. P index_too list candidates in
     let Candidates_of : List ℕ → Type 0 = λ list. P index_too forced_too list in
     subst Candidates_of same_candidates (subst Forced same_forced (subst Of same_index said))
+
+pub unmet_in_play : (play : Play) (index : IndexView) (forced : List ℕ) (candidates : Candidates) (unmet : List UnmetNeed) → play.index.now ≡ index → play.forced.now ≡ forced
+    → play.candidates.now ≡ candidates.places → unmet ≡ candidates.unmet.items → IsGathered index (members_of forced) candidates → AreUnmet play.index.now play.forced.now play.candidates.now unmet
+unmet_in_play play index forced candidates unmet same_index same_forced same_candidates same_unmet gathered =
+    carry (λ one list others. AreUnmet one list others unmet) index play.index.now forced play.forced.now candidates.places play.candidates.now (sym same_index) (sym same_forced) (sym same_candidates)
+    (subst (AreUnmet index forced candidates.places) (sym same_unmet) (
+      gathered.needs,
+      λ place j less is_in.
+          elim (gathered.told place j less is_in) [
+            | inl one ↦ inl one
+            | inr all ↦ inr all.1
+          ],
+    ))
 
 module _ (index : IndexView) (forced candidates : List ℕ) (vars : NumberSet) where
   abbrev Needs : List UnmetNeed → Type 0
@@ -81,26 +84,20 @@ module _ (index : IndexView) (forced candidates : List ℕ) (vars : NumberSet) w
 abbrev HealthyOf : Play → NumberSet → Type 0
 HealthyOf play vars = IsHealthy play.index.now (placed play.forced.now play.candidates.now vars)
 
-module _ (play : Play) (unmet : List UnmetNeed) (are : AreUnmet play.index.now play.forced.now play.candidates.now unmet) (before : Clauses) (made first second third last : Encoder)
-    (same_play : made.play ≡ play) (same_group : made.group ≡ 0) (is_before : made.formula.now ≡ before)
-    (empty : before ≡ record { vars = length play.candidates.now; groups = 1; clauses = [] })
-    (one : Tells (λ p set. MeetsEssentials p.index.now set) made first) (two : Tells (λ p set. All (λ need. Holds p.index.now set (Need need.place need.number)) unmet) first second)
-    (three : Tells (λ p set. (q : ℕ) → in_play p q ≡ true → MeetsEntries p.index.now set q) second third) (four : Tells (λ p set. (q : ℕ) → in_play p q ≡ true → HasOneVersion p.index.now set q) third last) where
-  all_told : AddsVars HealthyOf made last
-  all_told =
-      let At : Play → Type 0 = λ p. AreUnmet p.index.now p.forced.now p.candidates.now unmet in
-      tells_as _ HealthyOf made last
-      (λ vars. healthy_in_play made.play.index.now made.play.forced.now made.play.candidates.now vars unmet (subst At (sym same_play) are) made.play.forced_within made.play.candidates_within)
-      (tells_both _ _ made third last (tells_both _ _ made second third (tells_both _ _ made first second one two) three) four)
+pub all_told : (unmet : List UnmetNeed) (made first second third last : Encoder) → AreUnmet made.play.index.now made.play.forced.now made.play.candidates.now unmet
+    → Tells (λ p set. MeetsEssentials p.index.now set) made first → Tells (λ p set. All (λ need. Holds p.index.now set (Need need.place need.number)) unmet) first second
+    → Tells (λ p set. (q : ℕ) → in_play p q ≡ true → MeetsEntries p.index.now set q) second third → Tells (λ p set. (q : ℕ) → in_play p q ≡ true → HasOneVersion p.index.now set q) third last
+    → AddsVars HealthyOf made last
+all_told unmet made first second third last are one two three four =
+    tells_as _ HealthyOf made last
+    (λ vars. healthy_in_play made.play.index.now made.play.forced.now made.play.candidates.now vars unmet are made.play.forced_within made.play.candidates_within)
+    (tells_both _ _ made third last (tells_both _ _ made second third (tells_both _ _ made first second one two) three) four)
 
-  all_added : Adds 0 (HealthyOf play) before last.formula.now
-  all_added = adds_first HealthyOf play 0 before made last same_play same_group is_before all_told
-
-  pub described : (formula : Clauses) → formula ≡ last.formula.now → IsDescription play.index.now play.forced.now play.candidates.now formula
-  described formula is_last =
-      subst (IsDescription play.index.now play.forced.now play.candidates.now) (sym is_last) (record {
-        vars = added_vars 0 (length play.candidates.now) 1 (HealthyOf play) before last.formula.now empty all_added;
-        groups = added_groups 0 (length play.candidates.now) 1 (HealthyOf play) before last.formula.now empty all_added;
-        in_group = added_in_group 0 (length play.candidates.now) 1 (HealthyOf play) before last.formula.now empty all_added;
-        describes = added_says 0 (length play.candidates.now) 1 (HealthyOf play) before last.formula.now empty all_added;
-      })
+pub described : (index : IndexView) (forced candidates : List ℕ) (before after : Clauses) → before ≡ record { vars = length candidates; groups = 1; clauses = [] }
+    → Adds 0 (λ vars. IsHealthy index (placed forced candidates vars)) before after → IsDescription index forced candidates after
+described index forced candidates before after empty adds = record {
+  vars = added_vars 0 (length candidates) 1 _ before after empty adds;
+  groups = added_groups 0 (length candidates) 1 _ before after empty adds;
+  in_group = added_in_group 0 (length candidates) 1 _ before after empty adds;
+  describes = added_says 0 (length candidates) 1 _ before after empty adds;
+}

@@ -1,20 +1,16 @@
 -- Places that come to a list one by one.
-use Rattle.std.proofs.Common.{◌≡◌, ℕ, ◌+◌, ◌<◌, ◌≤◌, Bool, true, false, ◌||◌, eqb, List, All, [], ◌∷◌, ◌++◌, length, get_or, sym, ◌∙◌, ap, refl, inl, inr, ◌⊎◌, arith}
+use Rattle.std.proofs.Common.{◌≡◌, ℕ, ◌+◌, ◌<◌, ◌≤◌, true, ◌||◌, eqb, List, All, [], ◌∷◌, ◌++◌, length, get_or, sym, ◌∙◌, ap, inl, inr, ◌⊎◌, arith}
 use Rattle.std.proofs.lemmas.Bool.{cases_lt, or_cases, or_left, or_right, eqb-true, eq-eqb}
-use Rattle.std.proofs.lemmas.List.Folds.{list_any-append}
 use Rattle.number_sets.specs.Sets.{members_of, positions_of}
 use Rattle.deb_encode.specs.Play.{placed}
+use Rattle.number_sets.proofs.ListLemmas.{or_false}
+use Rattle.number_sets.proofs.MembersLemmas.{members_of_push}
 use Rattle.number_sets.proofs.ListMembers.{members_of_at, at_members_of, same_test, below_members}
 use Rattle.number_sets.proofs.PositionsOf.{position_in, group_at}
 
-module _ (places : List ℕ) (place q : ℕ) where
-  or_nothing : (b : Bool) → (b || false) ≡ b
-  or_nothing true = refl
-  or_nothing false = refl
-
-  -- a place that is put in is there, and so is what was there before
-  pub with_place_is : members_of (places ++ place ∷ []) q ≡ (members_of places q || eqb place q)
-  with_place_is = list_any-append (λ m. eqb m q) places (place ∷ []) ∙ ap (λ b. members_of places q || b) (or_nothing (eqb place q))
+-- a place that is put in is there, and so is what was there before
+with_place_is : (places : List ℕ) (place q : ℕ) → members_of (places ++ place ∷ []) q ≡ (members_of places q || eqb place q)
+with_place_is places place q = members_of_push places place q ∙ ap (λ b. members_of places q || b) (or_false (eqb place q))
 
 -- the candidates with the first of these numbers went in
 pub record Inserted (old candidates vars : List ℕ) (count : ℕ) (new : List ℕ) : Type 0 where

@@ -13,21 +13,18 @@ use Rattle.core_extract.proofs.NextOf.{never_falls}
 use Rattle.deb_index.specs.Packages.{IndexView}
 use Rattle.deb_health.specs.Causes.{without}
 use Rattle.deb_health.specs.Health.{AdmitsNone, admits_none_upward}
+use Rattle.deb_health.proofs.CoreLemmas.{without_more}
 use Rattle.sat_solve.specs.Clauses.{Clause, IsTrueSet}
 use Rattle.sat_solve.specs.Rotation.{IsTrueBut}
 use Rattle.deb_verdict.specs.Formulas.{AreNeeded}
 use Rattle.deb_verdict.proofs.Settled.{kept_has}
-
--- without those that are taken out, fewer are left of fewer
-without_within : (out a b : NumberSet) → IsWithin a b → IsWithin (without out a) (without out b)
-without_within out a b within k has = let parts = and_parts (a k) (not (out k)) has in and_from (b k) (not (out k)) (within k parts.0) parts.1
 
 -- what some need, fewer of them need
 pub fewer_needed : (index : IndexView) (p : ℕ) (out a b : NumberSet) (needed : List ℕ) → IsWithin b a → AreNeeded index p (without out a) needed → AreNeeded index p (without out b) needed
 fewer_needed index p out a b needed within are u is none =
     are u is
     (admits_none_upward index p (λ k. without out b k && not (eqb k u)) (λ k. without out a k && not (eqb k u))
-    (λ k has. let parts = and_parts (without out b k) (not (eqb k u)) has in and_from (without out a k) (not (eqb k u)) (without_within out b a within k parts.0) parts.1)
+    (λ k has. let parts = and_parts (without out b k) (not (eqb k u)) has in and_from (without out a k) (not (eqb k u)) (without_more out b a within k parts.0) parts.1)
     none)
 
 -- where what is kept is settled or stands behind, so do all that are left
@@ -56,7 +53,7 @@ known_admits index p out kept settled needed from u later apart is within are no
           ])
       | inr other ↦ other
     ] in
-    and_from (without out all k) (not (eqb k u)) (without_within out part all (left_within kept settled from (u + 1) (omega arith) within) k has) (ap not other))
+    and_from (without out all k) (not (eqb k u)) (without_more out part all (left_within kept settled from (u + 1) (omega arith) within) k has) (ap not other))
     none)
 
 -- a list that begins as another one, and then has numbers from one on

@@ -1,7 +1,6 @@
 -- Positions of constraints, listed one after another.
-use Rattle.std.proofs.Common.{◌≡◌, ◌⊎◌, ℕ, ◌+◌, ◌<◌, ◌≤◌, true, false, ◌||◌, eqb, List, [], ◌∷◌, ◌++◌, take, length, get_or, Option, Some, None, slice_get, Contains, refl, sym, subst, ◌∙◌, ap, inl, inr, arith}
-use Rattle.std.proofs.lemmas.Bool.{cases_lt, false≢true, or_cases, or_left, eqb-true}
-use Rattle.std.proofs.lemmas.List.Folds.{list_any_more}
+use Rattle.std.proofs.Common.{◌≡◌, ◌⊎◌, ℕ, ◌+◌, ◌<◌, ◌≤◌, true, List, [], ◌∷◌, ◌++◌, take, length, get_or, Option, Some, None, slice_get, Contains, refl, sym, subst, ◌∙◌, ap, inl, inr, arith}
+use Rattle.std.proofs.lemmas.Bool.{cases_lt, false≢true}
 use Rattle.std.proofs.lemmas.Option.{slice_get-get_or, slice_get_within, same_Some}
 use Rattle.deb_index.specs.declared.constraint.Constraint.{Constraint}
 use Rattle.deb_index.specs.declared.constraint.Constraint.TheVariants.{Essential, Need, Apart, Only}
@@ -10,12 +9,12 @@ use Rattle.deb_index.specs.Constraints.{constraints_of, IsOfIndex, has_name}
 use Rattle.deb_index.proofs.ConstraintLemmas.{constraints-within}
 use Rattle.deb_index.proofs.PositionLemmas.{one_position, essential_position}
 use Rattle.number_sets.specs.Sets.{members_of, IsWithin}
-use Rattle.number_sets.proofs.MembersLemmas.{members_of_push}
+use Rattle.number_sets.proofs.MembersLemmas.{pushed_has, pushed_keeps}
+use Rattle.deb_encode.proofs.AddLemmas.{in_push, taken_either}
 use Rattle.deb_verdict.specs.Closure.{kept, is_kept, is_kept_there}
 use Rattle.deb_verdict.specs.Formulas.{Lists}
 use Rattle.deb_groundwork.proofs.Healthy.{name_is}
 use Rattle.deb_index.proofs.IndexFacts.{All-at, IsRight, all_right, member_named}
-use Rattle.core_extract.proofs.Kept.{pushed_has}
 use Rattle.number_sets.proofs.ListMembers.{any_member}
 use Rattle.deb_groundwork.proofs.Names.{one_number}
 
@@ -85,17 +84,11 @@ module _ (index : IndexView) where
   }
 
   module _ (position : ℕ) (constraint : Constraint) (stands : slice_get (constraints_of index) position ≡ Some constraint) (before : List ℕ) where
-    pushed_old : (k : ℕ) → members_of before k ≡ true → members_of (before ++ position ∷ []) k ≡ true
-    pushed_old k is_in = members_of_push before position k ∙ or_left (members_of before k) (eqb position k || false) is_in
-
     pushed_only : (k : ℕ) → members_of (before ++ position ∷ []) k ≡ true → (members_of before k ≡ true) ⊎ (k < length (constraints_of index))
     pushed_only k is_in =
-        elim (or_cases (members_of before k) (eqb position k || false) (sym (members_of_push before position k) ∙ is_in)) [
+        elim (in_push before position k is_in) [
           | inl old ↦ inl old
-          | inr new ↦ elim (or_cases (eqb position k) false new) [
-            | inl here ↦ inr (omega (arith, eqb-true position k here, slice_get_within (constraints_of index) position constraint stands))
-            | inr never ↦ absurd (false≢true never)
-          ]
+          | inr here ↦ inr (omega (arith, here, slice_get_within (constraints_of index) position constraint stands))
         ]
 
     is_it : (k : ℕ) (c : Constraint) → slice_get (constraints_of index) k ≡ Some c → c ≡ constraint → k ≡ position
@@ -104,7 +97,7 @@ module _ (index : IndexView) where
     -- one position
     pub lists_one : (after : List ℕ) → after ≡ before ++ position ∷ [] → Listed (λ c. c ≡ constraint) before after
     lists_one after pushed = subst (Listed (λ c. c ≡ constraint) before) (sym pushed) (record {
-      has_old = pushed_old;
+      has_old = λ k is_in. pushed_keeps before position k is_in;
       only = pushed_only;
       all = λ k c there same. ap (members_of (before ++ position ∷ [])) (is_it k c there same) ∙ pushed_has before position;
     })
@@ -173,9 +166,9 @@ module _ (index : IndexView) where
       (λ x of_index right asked.
       elim asked [
         | inl essential ↦ inl (inl essential)
-        | inr at ↦ elim (or_cases (members_of (take i places) at.0) (eqb p at.0) (sym (list_any_more (λ member. eqb member at.0) places i 0 inside) ∙ at.1)) [
+        | inr at ↦ elim (taken_either places i inside at.0 at.1) [
           | inl old ↦ inl (inr (at.0, old, at.2))
-          | inr here ↦ let At : ℕ → Type 0 = λ q. IsAskedAt index q x in inr (subst At (sym (eqb-true p at.0 here)) at.2)
+          | inr here ↦ let At : ℕ → Type 0 = λ q. IsAskedAt index q x in inr (subst At (sym here) at.2)
         ]
       ])
       before d

@@ -51,7 +51,6 @@ fn describe(
         &play,
         &workspace.constraints,
         &mut workspace.clause,
-        &mut workspace.found,
         &mut workspace.gathered,
         &mut formula,
     )?;

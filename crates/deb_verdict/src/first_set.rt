@@ -10,7 +10,6 @@ ghost use Rattle.deb_health.specs.Verdicts.{IsFirstInstallation};
 use crate::describe::describe;
 use crate::gather::Ground;
 use crate::workspace::Workspace;
-use deb_encode::Play;
 use deb_groundwork::Groundwork;
 use deb_index::Index;
 use number_sets::sort_once;
@@ -68,18 +67,11 @@ pub(crate) fn first_set(
     workspace.candidates.gather(&ground, p)?;
     let count = count_of(groundwork.index, workspace.candidates.places.as_slice());
     workspace.formula.restart(count, 1);
-    let candidates = &workspace.candidates.places;
-    let play = Play::new(
-        groundwork.index,
-        &workspace.forced,
-        candidates,
-        &groundwork.alone,
-    );
     describe(
-        play,
-        &workspace.candidates.unmet,
+        groundwork,
+        &workspace.forced,
+        &workspace.candidates,
         &mut workspace.clause,
-        &mut workspace.found,
         &mut workspace.gathered,
         &mut workspace.formula,
     )?;

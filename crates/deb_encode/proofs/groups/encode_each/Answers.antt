@@ -1,18 +1,15 @@
-use Rattle.std.proofs.Common.{rules, ◌≡◌, ◌<◌, length, ap, arith}
+use Rattle.std.proofs.Common.{rules, ◌≡◌, length, ap, arith}
 use Rattle.sat_solve.specs.Clauses.{Clauses}
-use Rattle.deb_encode.proofs.EncoderLemmas.{adds_first}
-use Rattle.deb_encode.proofs.Grouped.{encoded_none, next_of_index, encoded_more, encoded_whole}
+use Rattle.deb_encode.proofs.Grouped.{encoded_none, encoded_more, encoded_whole}
 use Rattle.deb_encode.proofs.groups.encode_each.Goals as goal
 
 pub loop-group-preserved : goal.loop-group-preserved
 loop-group-preserved c =
     encoded_more c.args.play.now c.args.constraints.now c.loop-group.group _ c.loop-group.formula c.add_constraint.new.self.formula.now _ (search rules) c.loop-group.invariant
-    (adds_first _ c.args.play.now c.loop-group.group c.loop-group.formula c.new-encoder.result c.add_constraint.new.self c.new-encoder.ensures.play c.new-encoder.ensures.group c.new-encoder.ensures.formula c.in_ok-add_constraint.ensures)
+    c.in_ok-add_constraint.ensures.adds
 
 pub add_constraint-requires : goal.add_constraint-requires
-add_constraint-requires c =
-    let inside : c.loop-group.group < length c.args.constraints.now = omega (arith, c.loop-group-test.true, c.groups-group-end.ensures, ap (λ (f : Clauses). f.groups) c.requires.empty) in
-    next_of_index c.args.play.now c.args.constraints.now c.loop-group.group _ c.new-encoder.result.play c.new-encoder.ensures.play c.requires.of_index inside
+add_constraint-requires c = c.requires.of_index c.loop-group.group _ (omega (arith, c.loop-group-test.true, c.groups-group-end.ensures, ap (λ (f : Clauses). f.groups) c.requires.empty))
 
 pub loop-group-init : goal.loop-group-init
 loop-group-init c = encoded_none c.args.play.now c.args.constraints.now c.args.formula.now c.requires.empty

@@ -9,7 +9,7 @@ use Rattle.number_sets.specs.Sets.{all_of, members_of}
 use Rattle.deb_health.proofs.CoreLemmas.{first_of_all}
 use Rattle.deb_health.specs.Causes.{cause_at, either, IsFirstWithout, without}
 use Rattle.deb_health.specs.Health.{Admits}
-use Rattle.deb_verdict.proofs.CauseSteps.{all_told, AreFound, fewer_left, one_found}
+use Rattle.deb_verdict.proofs.CauseSteps.{all_told, fewer_left, one_found}
 use Rattle.deb_verdict.proofs.all_causes.cores_in.Goals as goal
 
 pub first_positions-requires-clause-rising : goal.first_positions-requires-clause-rising

@@ -7,9 +7,6 @@ use Rattle.deb_verdict.proofs.Inserted.{placed_below}
 use Rattle.deb_verdict.proofs.FirstSet.{first_answer, no_answer, vars_below}
 use Rattle.deb_verdict.proofs.GatherLemmas.{enough, marks_more}
 use Rattle.deb_groundwork.specs.Groundwork.{HasAnswers}
-use Rattle.deb_verdict.specs.declared.gather.UnmetNeed.{UnmetNeed}
-use Rattle.deb_verdict.specs.Formulas.{AreUnmet, IsDescription}
-use Rattle.deb_verdict.proofs.Described.{carry, unmet_of}
 use Rattle.deb_verdict.proofs.first_set.first_set.Goals as goal
 
 pub count_of-count-requires-clause-within : goal.count_of-count-requires-clause-within
@@ -35,55 +32,38 @@ overflow_cast-must c =
 pub solve_in-requires-clause-must : goal.solve_in-requires-clause-must
 solve_in-requires-clause-must c =
     let there : slice_get c.gather.new.self.places c.unwrap-must.result ≡ Some c.args.p = rw c.unwrap-must.ensures at c.position_of.ensures.some in
-    omega (arith, slice_get_within c.gather.new.self.places c.unwrap-must.result c.args.p there, (carry (λ index forced candidates. IsDescription index forced candidates c.describe.new.formula) _ _ _ _ _ _ c.new-play.ensures.index c.new-play.ensures.forced c.new-play.ensures.candidates c.in_ok-describe.ensures).vars)
+    omega (arith, slice_get_within c.gather.new.self.places c.unwrap-must.result c.args.p there, c.in_ok-describe.ensures.vars)
 
 pub list_set-requires : goal.list_set-requires
 list_set-requires c =
-    let said = carry (λ index forced candidates. IsDescription index forced candidates c.describe.new.formula) _ _ _ _ _ _ c.new-play.ensures.index c.new-play.ensures.forced c.new-play.ensures.candidates c.in_ok-describe.ensures in
     below_moved c.deref-in-Some.result.now c.in-Some.vars.items _ _ c.deref-in-Some.ensures.value (ap length c.as_slice-in-Some-2.ensures)
-    (vars_below c.gather.new.self.places c.describe.new.formula.clauses c.unwrap-must.result c.describe.new.formula.vars said.vars c.in-Some.vars.items
+    (vars_below c.gather.new.self.places c.describe.new.formula.clauses c.unwrap-must.result c.describe.new.formula.vars c.in_ok-describe.ensures.vars c.in-Some.vars.items
     (rw c.in-Some.is at c.in_ok-found.ensures.first))
 
-pub returns-in_ok-places-in-Some-clause-first : goal.returns-in_ok-places-in-Some-clause-first
-returns-in_ok-places-in-Some-clause-first c =
-    let said = carry (λ index forced candidates. IsDescription index forced candidates c.describe.new.formula) _ _ _ _ _ _ c.new-play.ensures.index c.new-play.ensures.forced c.new-play.ensures.candidates c.in_ok-describe.ensures in
+pub returns-in_ok-places-in-Some : goal.returns-in_ok-places-in-Some
+returns-in_ok-places-in-Some c =
     let forced : List ℕ = c.force.new.forced in
     let candidates : List ℕ = c.gather.new.self.places in
     let vars : List ℕ = c.in-Some.vars.items in
+    let places : List ℕ = c.in_ok-places-in-Some.places.items in
     let there : slice_get candidates c.unwrap-must.result ≡ Some c.args.p = rw c.unwrap-must.ensures at c.position_of.ensures.some in
-    let listed : (q : ℕ) → members_of c.in_ok-places-in-Some.places.items q ≡ placed forced candidates (members_of vars) q =
+    let listed : (q : ℕ) → members_of places q ≡ placed forced candidates (members_of vars) q =
     λ q. c.in_ok-places-in-Some.ensures.placed q
     ∙ (ap (λ list. placed list c.as_slice-in-Some-2.result.now (members_of c.deref-in-Some.result.now) q) c.as_slice-in-Some.ensures
     ∙ (ap (λ list. placed forced list (members_of c.deref-in-Some.result.now) q) c.as_slice-in-Some-2.ensures
     ∙ ap (λ list. placed forced candidates (members_of list) q) c.deref-in-Some.ensures.value)) in
-    first_answer c.args.groundwork.now.index.now c.args.p forced candidates c.describe.new.formula.clauses c.unwrap-must.result c.in_ok-force.ensures.follows
-    (enough c.args.groundwork.now.index.now (members_of forced) c.gather.new.self c.in_ok-gather.ensures.gathered) c.in_ok-gather.ensures.gathered.rising there said.in_group
-    said.describes c.describe.new.formula.vars said.vars vars c.in_ok-places-in-Some.places.items (rw c.in-Some.is at c.in_ok-found.ensures.first)
-    c.in_ok-places-in-Some.ensures.rising listed
-
-pub returns-in_ok-places-in-Some-clause-within : goal.returns-in_ok-places-in-Some-clause-within
-returns-in_ok-places-in-Some-clause-within c =
-    let forced : List ℕ = c.force.new.forced in
-    let candidates : List ℕ = c.gather.new.self.places in
-    let vars : List ℕ = c.in-Some.vars.items in
-    let listed : (q : ℕ) → members_of c.in_ok-places-in-Some.places.items q ≡ placed forced candidates (members_of vars) q =
-    λ q. c.in_ok-places-in-Some.ensures.placed q
-    ∙ (ap (λ list. placed list c.as_slice-in-Some-2.result.now (members_of c.deref-in-Some.result.now) q) c.as_slice-in-Some.ensures
-    ∙ (ap (λ list. placed forced list (members_of c.deref-in-Some.result.now) q) c.as_slice-in-Some-2.ensures
-    ∙ ap (λ list. placed forced candidates (members_of list) q) c.deref-in-Some.ensures.value)) in
-    placed_below forced candidates vars c.in_ok-places-in-Some.places.items _ listed c.in_ok-force.ensures.within c.in_ok-gather.ensures.gathered.within
+    record {
+      first =
+          first_answer c.args.groundwork.now.index.now c.args.p forced candidates c.describe.new.formula.clauses c.unwrap-must.result c.in_ok-force.ensures.follows
+          (enough c.args.groundwork.now.index.now (members_of forced) c.gather.new.self c.in_ok-gather.ensures.gathered) c.in_ok-gather.ensures.gathered.rising there c.in_ok-describe.ensures.in_group
+          c.in_ok-describe.ensures.describes c.describe.new.formula.vars c.in_ok-describe.ensures.vars vars places (rw c.in-Some.is at c.in_ok-found.ensures.first) c.in_ok-places-in-Some.ensures.rising listed;
+      within = placed_below forced candidates vars places _ listed c.in_ok-force.ensures.within c.in_ok-gather.ensures.gathered.within;
+      none = tt;
+    }
 
 pub returns-in-None-clause-none : goal.returns-in-None-clause-none
 returns-in-None-clause-none c =
-    let said = carry (λ index forced candidates. IsDescription index forced candidates c.describe.new.formula) _ _ _ _ _ _ c.new-play.ensures.index c.new-play.ensures.forced c.new-play.ensures.candidates c.in_ok-describe.ensures in
     let there : slice_get c.gather.new.self.places c.unwrap-must.result ≡ Some c.args.p = rw c.unwrap-must.ensures at c.position_of.ensures.some in
     no_answer c.args.groundwork.now.index.now c.args.p c.force.new.forced c.gather.new.self.places c.describe.new.formula.clauses c.unwrap-must.result c.in_ok-force.ensures.follows
-    (enough c.args.groundwork.now.index.now (members_of c.force.new.forced) c.gather.new.self c.in_ok-gather.ensures.gathered) c.in_ok-gather.ensures.gathered.rising there said.in_group
-    said.describes c.describe.new.formula.vars said.vars (rw c.in-None.is at c.in_ok-found.ensures.none)
-
-pub describe-requires-clause-unmet : goal.describe-requires-clause-unmet
-describe-requires-clause-unmet c =
-    let Of : List UnmetNeed → Type 0 = λ list. AreUnmet c.new-play.result.index.now c.new-play.result.forced.now c.new-play.result.candidates.now list in
-    subst Of (sym c.deref-3.ensures.value)
-    (carry (λ index forced candidates. AreUnmet index forced candidates c.gather.new.self.unmet.items) _ _ _ _ _ _ (sym c.new-play.ensures.index) (sym c.new-play.ensures.forced) (sym c.new-play.ensures.candidates)
-    (unmet_of c.args.groundwork.now.index.now c.force.new.forced c.gather.new.self c.in_ok-gather.ensures.gathered))
+    (enough c.args.groundwork.now.index.now (members_of c.force.new.forced) c.gather.new.self c.in_ok-gather.ensures.gathered) c.in_ok-gather.ensures.gathered.rising there c.in_ok-describe.ensures.in_group
+    c.in_ok-describe.ensures.describes c.describe.new.formula.vars c.in_ok-describe.ensures.vars (rw c.in-None.is at c.in_ok-found.ensures.none)

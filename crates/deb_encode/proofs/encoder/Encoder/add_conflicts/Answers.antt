@@ -1,51 +1,54 @@
-use Rattle.std.proofs.Common.{ℕ, ◌≤◌, List, All, length, eqb, sym, subst}
+use Rattle.std.proofs.Common.{◌≡◌, ℕ, ◌<◌, ◌≤◌, true, List, All, length, sym, subst}
+use Rattle.std.proofs.lemmas.Bool.{false≢true}
 use Rattle.std.proofs.lemmas.Result.{on_ok_weaker}
 use Rattle.deb_index.specs.Constraints.{IsAlone}
 use Rattle.number_sets.specs.Sets.{members_of}
 use Rattle.number_sets.proofs.ListMembers.{take_whole}
 use Rattle.deb_encode.specs.declared.play.Play.{Play}
-use Rattle.deb_encode.specs.declared.rivals.Entry.{Entry}
+use Rattle.deb_encode.specs.declared.gathered.Entry.{Entry}
 use Rattle.deb_encode.specs.Exclusions.{AddsWide, IsWide, EntryHolds}
 use Rattle.deb_encode.proofs.EncoderLemmas.{tells_none, tells_as, tells_both}
 use Rattle.deb_encode.proofs.Each.{each_none, each_more, each_whole}
-use Rattle.deb_encode.proofs.WideEntries.{wide_none, wide_more, wide_passed, all_wide, entries_say}
+use Rattle.deb_encode.proofs.WideEntries.{wide_none, wide_place, all_wide, entries_say}
 use Rattle.deb_encode.specs.Encoders.{Tells, all_places}
 use Rattle.deb_encode.proofs.encoder.Encoder.add_conflicts.Goals as goal
 use Rattle.deb_encode.proofs.encoder.Encoder.add_conflicts.Goals.{then-not-is_alone+in_ok-add_entries, else-not-is_alone}
 
 pub loop-number-init : goal.loop-number-init
-loop-number-init c = record { adds = each_none _ c.args.self.now; wide = wide_none c.args.self.now.play.index.now c.clear.new.self.items }
+loop-number-init c = record { adds = each_none _ c.args.self.now; wide = wide_none c.args.self.now.play.index.now _ c.clear.new.self.items (λ q j never is_wide. absurd (false≢true never)) }
 
 pub loop-number-preserved : goal.loop-number-preserved
 loop-number-preserved c =
+    let index = c.args.self.now.play.index.now in
+    let places : List ℕ = all_places c.args.self.now.play in
+    let i = c.loop-number.number in
+    let place = c.place-place.result in
+    let inside : i < length places = rw (sym c.count-number-end.ensures) c.loop-number-test.true in
+    let entries : List Entry = c.loop-number.gathered.entries.items in
     elim c.if-not-is_alone.branch [
       | then-not-is_alone+in_ok-add_entries w ↦
-          let Wide : Play → Type 0 = λ play. AddsWide play.index.now (λ q. eqb q c.place-place.result) c.loop-number.gathered.entries.items w.add_entries.new.entries.items in
+          let Wide : Play → Type 0 = λ play. AddsWide play.index.now (λ q j. place ≡ q) entries w.add_entries.new.entries.items in
           rw w.self-is
           (rw w.gathered-is
           (record {
-            adds =
-                each_more _ (all_places c.args.self.now.play) c.loop-number.number c.place-place.result c.args.self.now c.loop-number.self w.add_entries.new.self
-                (rw (sym c.count-number-end.ensures) c.loop-number-test.true) c.place-place.ensures.at c.loop-number.invariant.adds w.in_ok-add_entries.ensures.adds;
+            adds = each_more _ places i place c.args.self.now c.loop-number.self w.add_entries.new.self inside c.place-place.ensures.at c.loop-number.invariant.adds w.in_ok-add_entries.ensures.adds;
             wide =
-                wide_more c.args.self.now.play.index.now (all_places c.args.self.now.play) c.loop-number.number c.place-place.result (rw (sym c.count-number-end.ensures) c.loop-number-test.true) c.place-place.ensures.at
-                c.clear.new.self.items c.loop-number.gathered.entries.items c.loop-number.invariant.wide w.add_entries.new.entries.items
+                wide_place index places i place inside c.place-place.ensures.at c.clear.new.self.items entries w.add_entries.new.entries.items c.loop-number.invariant.wide
                 (subst Wide c.loop-number.invariant.adds.same.play w.in_ok-add_entries.ensures.wide);
           }))
       | else-not-is_alone w ↦
-          let alone : IsAlone c.args.self.now.play.index.now c.place-place.result = c.is_alone.ensures w.if-not-is_alone.false in
-          let Alone : Play → Type 0 = λ play. IsAlone play.index.now c.place-place.result in
-          let alone_now : IsAlone c.loop-number.self.play.index.now c.place-place.result = subst Alone (sym c.loop-number.invariant.adds.same.play) alone in
+          let alone : IsAlone index place = c.is_alone.ensures w.if-not-is_alone.false in
+          let Alone : Play → Type 0 = λ play. IsAlone play.index.now place in
+          let alone_now : IsAlone c.loop-number.self.play.index.now place = subst Alone (sym c.loop-number.invariant.adds.same.play) alone in
           rw w.self-is
           (rw w.gathered-is
           (record {
             adds =
-                each_more _ (all_places c.args.self.now.play) c.loop-number.number c.place-place.result c.args.self.now c.loop-number.self c.loop-number.self
-                (rw (sym c.count-number-end.ensures) c.loop-number-test.true) c.place-place.ensures.at c.loop-number.invariant.adds
+                each_more _ places i place c.args.self.now c.loop-number.self c.loop-number.self inside c.place-place.ensures.at c.loop-number.invariant.adds
                 (tells_none _ c.loop-number.self (λ vars j less narrow has q is_in hit. alone_now.hits_none j less q hit));
             wide =
-                wide_passed c.args.self.now.play.index.now (all_places c.args.self.now.play) c.loop-number.number c.place-place.result (rw (sym c.count-number-end.ensures) c.loop-number-test.true) c.place-place.ensures.at
-                c.clear.new.self.items c.loop-number.gathered.entries.items c.loop-number.invariant.wide alone;
+                wide_place index places i place inside c.place-place.ensures.at c.clear.new.self.items entries entries c.loop-number.invariant.wide
+                (wide_none index (λ q j. place ≡ q) entries (λ q j same is_wide. subst (IsAlone index) same alone));
           }))
     ]
 
@@ -60,7 +63,7 @@ pub returns : goal.returns
 returns c =
     let Of : List Entry → Type 0 = λ list. Tells (λ play set. All (EntryHolds play.index.now set) list) c.loop-number.self c.add_runs.new.self in
     let count : length (all_places c.args.self.now.play) ≤ c.loop-number.number = rw (sym c.count-number-end.ensures) c.loop-number-test.false in
-    let Wide : List ℕ → Type 0 = λ places. AddsWide c.args.self.now.play.index.now (members_of places) c.clear.new.self.items c.loop-number.gathered.entries.items in
+    let Wide : List ℕ → Type 0 = λ places. AddsWide c.args.self.now.play.index.now (λ q j. members_of places q ≡ true) c.clear.new.self.items c.loop-number.gathered.entries.items in
     on_ok_weaker c.add_runs.result
     (λ added. tells_as _ _ c.args.self.now c.add_runs.new.self
     (λ vars. entries_say c.args.self.now.play.index.now c.args.self.now.play.forced.now c.args.self.now.play.candidates.now vars c.clear.new.self.items c.loop-number.gathered.entries.items c.clear.ensures.items (subst Wide (take_whole (all_places c.args.self.now.play) c.loop-number.number count) c.loop-number.invariant.wide))

@@ -7,5 +7,5 @@ use Rattle.deb_encode.proofs.encoder.Encoder.add_conflicts.Given as goal
 abbrev pub invariant-loop-number : goal.invariant-loop-number
 invariant-loop-number l = record {
   adds : Tells (λ play set. (q : ℕ) → members_of (take l.number (all_places l.initial.self.play)) q ≡ true → MeetsNarrow play.index.now set q) l.initial.self l.self;
-  wide : AddsWide l.initial.self.play.index.now (members_of (take l.number (all_places l.initial.self.play))) l.initial.gathered.entries.items l.gathered.entries.items;
+  wide : AddsWide l.initial.self.play.index.now (λ q j. members_of (take l.number (all_places l.initial.self.play)) q ≡ true) l.initial.gathered.entries.items l.gathered.entries.items;
 }
