@@ -44,17 +44,11 @@ impl<'w, 'i> Print<Vec<Constraint>> for Cores<'w, 'i> {
     #[tactic(auto, unfolding(crate::specs::Document::core_in))]
     fn print(&self, out: &mut Vec<u8>, core: &Vec<Constraint>) -> Result<(), AllocError> {
         let writer = self.writer;
+        let place = self.place;
         let core = core.as_slice();
         if writer.is_walked() {
             out.extend_from_slice(b"\n")?;
-            push_walk(
-                writer.alloc,
-                out,
-                writer.index,
-                writer.similar,
-                self.place,
-                core,
-            )?;
+            push_walk(writer.alloc, out, writer.index, writer.similar, place, core)?;
         } else {
             push_elements(writer.config.format, out, Lead::Within, writer, core)?;
         }
