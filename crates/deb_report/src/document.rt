@@ -28,18 +28,12 @@ impl<'i> Writer<'i> {
         if !self.config.explain {
             return Ok(());
         }
+        let format = self.config.format;
         match shown.told {
             Told::Installable => {}
             Told::Set(places) => {
                 let places = places.as_slice();
-                push_list(
-                    self.config.format,
-                    out,
-                    Lead::Within,
-                    "installation-set",
-                    self,
-                    places,
-                )?;
+                push_list(format, out, Lead::Within, "installation-set", self, places)?;
             }
             Told::Broken(cores) => self.push_cores(out, shown.place, cores.as_slice())?,
         }

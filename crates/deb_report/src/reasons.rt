@@ -175,29 +175,16 @@ impl<'i> Writer<'i> {
         requires { FitsWalk self.now.index.now self.now.similar.now (Constraint.Need place number) }
         ensures { OnOk result (out.new.items ≡ out.old.items ++ links_in self.now.config.now.format self.now.index.now (Constraint.Need place number)) }
     {
+        let form = self.config.format;
         let need = Constraint::Need(place, number);
         if is_missing(self.alloc, self.index, place, number)? {
             let group = self.index.need(place, number);
-            push_list(
-                self.config.format,
-                out,
-                Lead::Within,
-                "alternatives",
-                self,
-                group,
-            )?;
+            push_list(form, out, Lead::Within, "alternatives", self, group)?;
             self.push_near_to(out, slice::from_ref(&need))?;
         } else {
             let answers = answers_to(self.alloc, self.index, need)?;
             let answers = answers.as_slice();
-            push_list(
-                self.config.format,
-                out,
-                Lead::Within,
-                "met-by",
-                self,
-                answers,
-            )?;
+            push_list(form, out, Lead::Within, "met-by", self, answers)?;
         }
         Ok(())
     }
@@ -212,24 +199,18 @@ impl<'i> Writer<'i> {
         requires { FitsWalk self.now.index.now self.now.similar.now constraint }
         ensures { OnOk result (out.new.items ≡ out.old.items ++ links_in self.now.config.now.format self.now.index.now constraint) }
     {
+        let form = self.config.format;
         match constraint {
             Constraint::Essential(_) => (),
             Constraint::Need(place, number) => self.push_need_links(out, place, number)?,
             Constraint::Apart(_, _) => {
                 let hits = hits_of(self.alloc, self.index, slice::from_ref(&constraint))?;
                 let hits = hits.as_slice();
-                push_list(self.config.format, out, Lead::Within, "hits", self, hits)?;
+                push_list(form, out, Lead::Within, "hits", self, hits)?;
             }
             Constraint::Only(name) => {
                 let places = self.index.places_named(name);
-                push_list(
-                    self.config.format,
-                    out,
-                    Lead::Within,
-                    "versions",
-                    self,
-                    places,
-                )?;
+                push_list(form, out, Lead::Within, "versions", self, places)?;
             }
         }
         Ok(())
