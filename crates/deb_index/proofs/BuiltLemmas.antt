@@ -5,8 +5,8 @@ use Rattle.std.specs.List.Sorted.{IsPermutation}
 use Rattle.std.proofs.lemmas.List.{length-append}
 use Rattle.std.proofs.lemmas.List.Sorted.{list_any-IsPermutation}
 use Rattle.std.proofs.lemmas.List.Sums.{sum_by_push}
-use Rattle.deb_index.specs.declared.draft.PackageKey.{PackageKey}
-use Rattle.deb_index.specs.declared.draft.Draft.{Draft}
+use Rattle.deb_index.specs.declared.duplicates.PackageKey.{PackageKey}
+use Rattle.deb_index.specs.declared.duplicates.Draft.{Draft}
 use Rattle.deb_index.specs.Packages.{IndexView, PackageView, is_named}
 use Rattle.deb_index.specs.Reading.{same_package, stanza_limit, with_reading}
 use Rattle.deb_index.specs.Tables.{HasRoom, IsSmall, asked_count, asked_limit, number_in}

@@ -8,7 +8,7 @@ use Rattle.std.specs.Str.{bytes_eq}
 use Rattle.std.proofs.lemmas.Bool.{or_parts}
 use Rattle.std.proofs.lemmas.List.{append-nil, get_or-map, length-map}
 use Rattle.std.proofs.lemmas.List.Folds.{list_any-append}
-use Rattle.deb_index.specs.declared.draft.PackageKey.{PackageKey}
+use Rattle.deb_index.specs.declared.duplicates.PackageKey.{PackageKey}
 use Rattle.deb_index.specs.declared.package.Package.{Package}
 use Rattle.deb_index.specs.Packages.{PackageView, is_named, package_view, places_where}
 use Rattle.deb_index.specs.Reading.{same_package}

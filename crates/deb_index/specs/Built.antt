@@ -3,9 +3,9 @@ use Rattle.std.specs.Prelude.{◌≡◌, ◌≤◌, ◌+◌, ℕ, Bool, false, �
 use Rattle.std.specs.Option.{option_map_or}
 use Rattle.std.specs.List.{list_any, AllByRecursion, flat_map}
 use Rattle.std.specs.Str.{bytes_eq}
-use Rattle.deb_index.specs.declared.draft.PackageKey.{PackageKey}
+use Rattle.deb_index.specs.declared.duplicates.PackageKey.{PackageKey}
 use Rattle.deb_index.specs.declared.catalog.Catalog.{Catalog}
-use Rattle.deb_index.specs.declared.draft.Draft.{Draft}
+use Rattle.deb_index.specs.declared.duplicates.Draft.{Draft}
 use Rattle.deb_index.specs.declared.links.Links.{Links}
 use Rattle.deb_index.specs.declared.names.Names.{Names}
 use Rattle.deb_index.specs.Packages.{PackageView, IndexView, essential_names, is_named, package_view}

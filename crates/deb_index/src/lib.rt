@@ -11,8 +11,8 @@
 //! - `catalog`: the packages, with their names and what was counted; `index`: the index of a text, or of a text and a background.
 //! - `answering`: which packages meet what is asked for; `constraint`: its constraints, and where each stands.
 //! - `parts`: a text in parts, which several workers read side by side; `unlinked`: an index that lacks its rows, which they make side by side.
-//! - `draft`: a catalog while stanzas are taken in, part by part; `builder`: a draft that is filled whole; `pieces`: an index whose text comes in
-//!   pieces; `read` makes the index of whole texts by the one, and for several workers by the other.
+//! - `duplicates`: packages as they are taken in, each once; `builder`: an index while it is read, part by part; `pieces`: one whose text comes in
+//!   pieces; `read`: one of whole texts.
 //! - `laws`: what a background adds, and that the limits are those of the definitions.
 #![tactic(auto)]
 
@@ -20,7 +20,7 @@ mod answering;
 mod builder;
 mod catalog;
 mod constraint;
-mod draft;
+mod duplicates;
 mod error;
 mod index;
 pub mod laws;

@@ -7,7 +7,7 @@ use Rattle.deb_index.specs.Built.{key_view, package_key, same_key}
 use Rattle.deb_index.proofs.KeyLemmas.{first-within, known-first, known-none}
 use Rattle.deb_index.proofs.FirstLemmas.{any-map}
 use Rattle.deb_index.proofs.NameLemmas.{position-known}
-use Rattle.deb_index.proofs.draft.Draft.contains.Goals as goal
+use Rattle.deb_index.proofs.duplicates.Draft.contains.Goals as goal
 
 pub returns-in_default : goal.returns-in_default
 returns-in_default c =

@@ -1,19 +1,14 @@
-//! An index while stanzas are taken in.
-ghost use Rattle.std.specs.Prelude.{◌≡◌, ◌≢◌, ◌<◌, ◌≤◌, ◌+◌, ◌*◌, ◌++◌, ◌∷◌, [], false, Ok, Err, IfOk, IfErr, OnOk, Some, cond, length, map, position, sum_by};
-ghost use Rattle.std.specs.List.{fold, list_any};
+//! Packages as they are taken in, each once: one with the name and the version text of an earlier one is a duplicate.
+ghost use Rattle.std.specs.Prelude.{◌≡◌, ◌<◌, ◌++◌, ◌∷◌, [], false, IfOk, OnOk, Some, cond, map, position};
+ghost use Rattle.std.specs.List.{list_any};
 ghost use Rattle.std.specs.Str.{bytes_eq};
-ghost use Rattle.deb_control.specs.Stanzas.{stanzas_of};
 ghost use Rattle.deb_index.specs.Packages.{names, package_view};
-ghost use Rattle.deb_index.specs.Built.{HasKeysOf, key_view, package_key, same_key, ArePartsOf, HasRoomFor, HaveRoom, IsForeseen, part_stanzas};
-ghost use Rattle.deb_index.specs.Reading.{byte_limit, read_behind, reading_view, same_package, stanza_limit, with_reading};
-ghost use Rattle.deb_index.specs.Tables.{HasRoom, asked_count};
+ghost use Rattle.deb_index.specs.Built.{HasKeysOf, key_view, package_key, same_key};
+ghost use Rattle.deb_index.specs.Reading.{reading_view, same_package, stanza_limit, with_reading};
+ghost use Rattle.deb_index.specs.Tables.{HasRoom};
 
 use crate::catalog::Catalog;
-use crate::error::IndexError;
-use crate::limits::STANZA_LIMIT;
-use crate::package::{Package, Reading, next_reading};
-use crate::parts::{Part, Parted};
-use deb_control::Reader;
+use crate::package::{Package, Reading};
 use std::alloc::{AllocError, Global};
 use std::collections::HashSet;
 
@@ -62,90 +57,8 @@ pub(crate) struct Draft {
 impl Draft {
     ghost use Rattle.deb_index.specs.Built.{IsBuilt, draft_view};
 
-    /// Takes in the stanzas of a text, or of a piece of it, part by part; so many stanzas stood in an earlier text.
-    pub(crate) fn add_text(
-        &mut self,
-        alloc: Global,
-        before: u32,
-        text: Parted,
-    ) -> Result<(), IndexError>
-        requires built { IsBuilt self.old }
-        requires parts { ArePartsOf (draft_view self.old).arch text.text.now text.parts.items }
-        requires begun { before ≤ self.old.catalog.stanzas }
-        requires short { length text.text.now ≤ byte_limit }
-        requires few { self.old.catalog.stanzas ≤ stanza_limit }
-        requires room { sum_by asked_count (draft_view self.old).packages ≤ byte_limit + 1 + 4 * self.old.catalog.stanzas }
-        ensures built { OnOk result (IsBuilt self.new) }
-        ensures accepted { OnOk result (read_behind (draft_view self.old) before (stanzas_of text.entry.text.now) ≡ Ok (draft_view self.new)) }
-        ensures refused { IfErr result (λ e. e ≢ IndexError.Memory → read_behind (draft_view self.old) before (stanzas_of text.entry.text.now) ≡ Err e) }
-    {
-        for part in text.parts {
-            self.add_part(alloc, before, part)?;
-        }
-        Ok(())
-    }
-
-    // Takes in a part of a text; so many stanzas stood in an earlier text. What was read beforehand is taken over, where there are not too
-    // many stanzas then; else the part is read here.
-    fn add_part(&mut self, alloc: Global, before: u32, part: Part) -> Result<(), IndexError>
-        requires built { IsBuilt self.old }
-        requires begun { before ≤ self.old.catalog.stanzas }
-        requires few { self.old.catalog.stanzas ≤ stanza_limit }
-        requires short { length part.text.now ≤ byte_limit }
-        requires foreseen { IsForeseen (draft_view self.old).arch part }
-        requires room { HasRoomFor (draft_view self.old) (part_stanzas part) }
-        ensures built { OnOk result (IsBuilt self.new) }
-        ensures accepted { OnOk result (read_behind (draft_view self.old) before (part_stanzas part.entry) ≡ Ok (draft_view self.new)) }
-        ensures refused { IfErr result (λ e. e ≢ IndexError.Memory → read_behind (draft_view self.old) before (part_stanzas part.entry) ≡ Err e) }
-    {
-        let Part { text, found } = part;
-        if let Some(found) = found {
-            if found.len() <= (STANZA_LIMIT - self.catalog.stanzas) as usize {
-                self.add_readings(alloc, found)?;
-                return Ok(());
-            }
-        }
-        let reader = Reader::behind(text, u64::from(self.catalog.stanzas - before));
-        self.add_stanzas(alloc, before, reader)
-    }
-
-    // Takes in what stanzas read as.
-    fn add_readings(&mut self, alloc: Global, found: Vec<Reading>) -> Result<(), AllocError>
-        requires built { IsBuilt self.old }
-        requires room { HaveRoom (draft_view self.old) (map reading_view found.items) }
-        ensures built { OnOk result (IsBuilt self.new) }
-        ensures added { OnOk result (draft_view self.new ≡ fold with_reading (draft_view self.old) (map reading_view found.items)) }
-    {
-        for reading in found {
-            self.add(alloc, reading)?;
-        }
-        Ok(())
-    }
-
-    // Reads the stanzas that a reader has before it, and takes each in; so many stood in an earlier text.
-    fn add_stanzas(&mut self, alloc: Global, before: u32, reader: Reader) -> Result<(), IndexError>
-        requires built { IsBuilt self.old }
-        requires counts { self.old.catalog.stanzas ≡ before + reader.count }
-        requires few { self.old.catalog.stanzas ≤ stanza_limit }
-        requires room { HasRoomFor (draft_view self.old) reader.stanzas }
-        ensures built { OnOk result (IsBuilt self.new) }
-        ensures accepted { OnOk result (read_behind (draft_view self.old) before reader.entry.stanzas ≡ Ok (draft_view self.new)) }
-        ensures refused { IfErr result (λ e. e ≢ IndexError.Memory → read_behind (draft_view self.old) before reader.entry.stanzas ≡ Err e) }
-    {
-        let mut reader = reader;
-        'stanzas: while let Some(reading) = next_reading(
-            alloc,
-            &self.catalog.arch,
-            before,
-            &mut reader,
-        )? {
-            self.add(alloc, reading)?;
-        }
-        Ok(())
-    }
-
-    // Takes in what the next stanza reads as.
-    fn add(&mut self, alloc: Global, reading: Reading) -> Result<(), AllocError>
+    /// Takes in what the next stanza reads as.
+    pub(crate) fn add(&mut self, alloc: Global, reading: Reading) -> Result<(), AllocError>
         requires built { IsBuilt self.old }
         requires few { self.old.catalog.stanzas < stanza_limit }
         requires room { HasRoom (draft_view self.old) (reading_view reading) }

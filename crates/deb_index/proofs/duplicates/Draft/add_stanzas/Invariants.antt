@@ -3,7 +3,7 @@ use Rattle.deb_index.specs.Built.{IsBuilt, draft_view}
 use Rattle.deb_index.specs.Reading.{read_behind, stanza_limit}
 use Rattle.deb_index.proofs.StepLemmas.{Continues}
 use Rattle.deb_index.proofs.RoomLemmas.{IsRoomy}
-use Rattle.deb_index.proofs.draft.Draft.add_stanzas.Given as goal
+use Rattle.deb_index.proofs.duplicates.Draft.add_stanzas.Given as goal
 
 abbrev pub invariant-stanzas : goal.invariant-stanzas
 invariant-stanzas l = record {

@@ -1,7 +1,7 @@
 use Rattle.std.proofs.Common.{◌≡◌, ◌++◌, ◌∷◌, ◌∙◌, ◌+◌, false, List, ℕ, [], cond, ap, get_or, length, sym, subst, map, arith}
 use Rattle.std.specs.List.{list_any}
 use Rattle.std.proofs.lemmas.List.{get_or_push, length-map, map-append}
-use Rattle.deb_index.specs.declared.draft.Draft.{Draft}
+use Rattle.deb_index.specs.declared.duplicates.Draft.{Draft}
 use Rattle.deb_index.specs.declared.package.Package.{Package}
 use Rattle.deb_index.specs.Packages.{package_view}
 use Rattle.deb_index.specs.Tables.{number_in}
@@ -10,7 +10,7 @@ use Rattle.deb_index.specs.Built.{HasKeysOf, draft_view, key_view, package_key, 
 use Rattle.deb_index.proofs.BuiltLemmas.{adds-package, built-push}
 use Rattle.deb_index.proofs.KeyLemmas.{key-apart}
 use Rattle.deb_index.proofs.NameLemmas.{named-some, number-few, position-known}
-use Rattle.deb_index.proofs.draft.Draft.push.Goals as goal
+use Rattle.deb_index.proofs.duplicates.Draft.push.Goals as goal
 
 -- the package at the next place is the one that was put down there
 kept-is : (items new : List Package) (x kept : Package) (place : ℕ) → new ≡ items ++ x ∷ [] → length items ≡ place → kept ≡ get_or new place kept → kept ≡ x

@@ -3,7 +3,7 @@ use Rattle.deb_index.specs.Packages.{package_view}
 use Rattle.deb_index.specs.Tables.{number_in}
 use Rattle.deb_index.specs.Names.{name_texts}
 use Rattle.deb_index.proofs.NameLemmas.{position-known}
-use Rattle.deb_index.proofs.draft.Draft.keep.Goals as goal
+use Rattle.deb_index.proofs.duplicates.Draft.keep.Goals as goal
 
 pub contains-requires-clause-known : goal.contains-requires-clause-known
 contains-requires-clause-known c =

@@ -5,7 +5,7 @@ use Rattle.deb_index.specs.Built.{draft_view, part_stanzas}
 use Rattle.deb_index.specs.Reading.{continued, reading_view, stanza_limit}
 use Rattle.deb_index.proofs.ForeseenLemmas.{foreseen}
 use Rattle.deb_index.proofs.TakenLemmas.{have-room, length-read}
-use Rattle.deb_index.proofs.draft.Draft.add_part.Goals as goal
+use Rattle.deb_index.proofs.duplicates.Draft.add_part.Goals as goal
 
 pub add_readings-requires-clause-room : goal.add_readings-requires-clause-room
 add_readings-requires-clause-room c =

@@ -5,7 +5,7 @@ use Rattle.deb_index.specs.Built.{draft_view}
 use Rattle.deb_index.specs.Reading.{Steps, continued, readings, reading_view, stanza_limit}
 use Rattle.deb_index.proofs.StepLemmas.{continues-end, continues-fault, continues-more, steps-fewer}
 use Rattle.deb_index.proofs.RoomLemmas.{arch-kept, read-few, read-room, stays-few, stays-roomy}
-use Rattle.deb_index.proofs.draft.Draft.add_stanzas.Goals as goal
+use Rattle.deb_index.proofs.duplicates.Draft.add_stanzas.Goals as goal
 
 pub stanzas-init : goal.stanzas-init
 stanzas-init c =

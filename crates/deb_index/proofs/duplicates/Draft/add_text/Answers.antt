@@ -11,7 +11,7 @@ use Rattle.deb_index.specs.Reading.{byte_limit, continued, read_behind, readings
 use Rattle.deb_index.proofs.PartedLemmas.{short-parts}
 use Rattle.deb_index.proofs.RoomLemmas.{text-room}
 use Rattle.deb_index.proofs.TakenLemmas.{Taken, part-room, parts-end, parts-fault, parts-more, rest-room, taken}
-use Rattle.deb_index.proofs.draft.Draft.add_text.Goals as goal
+use Rattle.deb_index.proofs.duplicates.Draft.add_text.Goals as goal
 
 pub loop-part-init : goal.loop-part-init
 loop-part-init c =

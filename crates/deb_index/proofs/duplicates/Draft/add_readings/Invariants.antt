@@ -3,7 +3,7 @@ use Rattle.std.specs.List.{fold}
 use Rattle.std.specs.Vec.Iter.{into_iter_items}
 use Rattle.deb_index.specs.Built.{IsBuilt, draft_view, HaveRoom}
 use Rattle.deb_index.specs.Reading.{reading_view, with_reading}
-use Rattle.deb_index.proofs.draft.Draft.add_readings.Given as goal
+use Rattle.deb_index.proofs.duplicates.Draft.add_readings.Given as goal
 
 abbrev pub invariant-loop-reading : goal.invariant-loop-reading
 invariant-loop-reading l = record {

@@ -7,7 +7,7 @@ use Rattle.deb_index.specs.Packages.{package_view}
 use Rattle.deb_index.specs.Built.{HasKeysOf, key_view, package_key, same_key}
 use Rattle.deb_index.proofs.BuiltLemmas.{keys-grow}
 use Rattle.deb_index.proofs.FirstLemmas.{any-map}
-use Rattle.deb_index.proofs.draft.keep_key.Goals as goal
+use Rattle.deb_index.proofs.duplicates.keep_key.Goals as goal
 
 pub returns-in_ok-insert : goal.returns-in_ok-insert
 returns-in_ok-insert c =
