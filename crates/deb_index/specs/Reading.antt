@@ -1,5 +1,5 @@
 -- What the stanzas of a text, or of a text and a background behind it, read as: the index that they make, or the first fault.
-use Rattle.std.specs.Prelude.{◌≡◌, ◌≢◌, ℕ, ◌+◌, ◌-◌, Bool, true, false, ◌&&◌, ◌||◌, nat_lt, List, [], ◌∷◌, ◌++◌, length, map, filter_map, Option, Some, None, Result, Ok, Err, if◌then◌else◌, codes, unwrap_or}
+use Rattle.std.specs.Prelude.{◌≡◌, ◌≢◌, ℕ, ◌+◌, ◌-◌, Bool, true, false, ◌&&◌, ◌||◌, nat_lt, List, [], ◌∷◌, ◌++◌, length, filter_map, Option, Some, None, Result, Ok, Err, if◌then◌else◌, codes, unwrap_or}
 use Rattle.std.specs.List.{list_all, list_any, fold}
 use Rattle.std.specs.Option.{option_map_or, is_none}
 use Rattle.std.specs.Str.{bytes_eq}
@@ -11,7 +11,7 @@ use Rattle.deb_relation.specs.declared.atom.RelationError.{RelationError}
 use Rattle.deb_relation.specs.declared.atom.RelationError.TheVariants as relation
 use Rattle.deb_relation.specs.declared.bound.Op.{Op}
 use Rattle.deb_relation.specs.declared.bound.Op.TheVariants.{Lt, Le, Eq, Ge, Gt}
-use Rattle.deb_relation.specs.Relationship.{atom_view, AtomText, atoms_of, groups_of, is_name}
+use Rattle.deb_relation.specs.Relationship.{AtomText, atoms_of, groups_of, is_name}
 use Rattle.deb_relation.specs.VersionText.{fault_of}
 use Rattle.deb_index.specs.declared.error.IndexError.{IndexError}
 use Rattle.deb_index.specs.declared.error.IndexError.TheVariants.{BadLine, RepeatedField, MissingField, BadName, BadVersion, BadRelation, TooManyStanzas, Memory}
@@ -22,7 +22,6 @@ use Rattle.deb_index.specs.declared.error.RelField.TheVariants.{PreDepends, Depe
 use Rattle.deb_index.specs.declared.package.Reading.{Reading}
 use Rattle.deb_index.specs.declared.package.Reading.TheVariants as reading
 use Rattle.deb_index.specs.declared.package.Head.{Head}
-use Rattle.deb_index.specs.declared.package.Relations.{Relations}
 use Rattle.deb_index.specs.Packages.{PackageView, IndexView, package_view, first_of_each}
 
 -- how many bytes each text may have
@@ -136,20 +135,6 @@ abbrev pub is_allowed : List Entry → Bool
 is_allowed fields = option_map_or (λ value. bytes_eq value (codes "allowed")) (field_value fields (codes "Multi-Arch")) false
 
 -- the package that a stanza's head and its relationships make
-abbrev pub package_with : List Entry → HeadView → Relations → PackageView
-package_with fields head r = record {
-  name = head.name;
-  version = head.version;
-  architecture = head.architecture;
-  essential = is_marked fields;
-  multi_arch_allowed = is_allowed fields;
-  pre_depends = r.pre_depends;
-  depends = r.depends;
-  conflicts = map atom_view r.conflicts.items;
-  breaks = map atom_view r.breaks.items;
-  provides = map atom_view r.provides.items;
-}
-
 unfoldable pub package_of : ℕ → List Entry → HeadView → Result PackageView IndexError
 package_of n fields head = do
   pre_depends ← groups_in n fields PreDepends

@@ -6,7 +6,7 @@ ghost use Rattle.std.specs.Str.{bytes_eq};
 ghost use Rattle.deb_control.specs.Fields.{field_value};
 ghost use Rattle.deb_relation.specs.Relationship.{atom_view};
 ghost use Rattle.deb_index.specs.Packages.{package_view};
-ghost use Rattle.deb_index.specs.Reading.{Gives, head_of, head_view, groups_in, atoms_in, is_for, is_provided, readings, relation_text, good_version, HeadView, provides_in, package_of, package_with, reading_of, reading_view, stanza_limit, Steps};
+ghost use Rattle.deb_index.specs.Reading.{Gives, Steps, head_view, reading_view, readings, stanza_limit};
 ghost use Rattle.deb_index.specs.Reading as spec;
 
 use crate::error::{IndexError, RelField};
@@ -45,16 +45,6 @@ pub(crate) struct Head<'s> {
     pub(crate) architecture: &'s [u8],
 }
 
-/// What a stanza asks for and provides, of those that count for the architecture.
-#[derive(Drop)]
-pub(crate) struct Relations {
-    pub(crate) pre_depends: Groups,
-    pub(crate) depends: Groups,
-    pub(crate) conflicts: Vec<Atom>,
-    pub(crate) breaks: Vec<Atom>,
-    pub(crate) provides: Vec<Atom>,
-}
-
 /// What a stanza without a fault is: `Skipped` is one of another architecture.
 #[derive(Drop)]
 pub(crate) enum Reading {
@@ -71,7 +61,7 @@ fn mandatory<'s>(stanza: &'s Stanza, number: u64, name: &str) -> Result<&'s [u8]
 }
 
 fn read_version(alloc: Global, number: u64, text: &[u8]) -> Result<Version, IndexError>
-    ensures { Gives (λ v. v) result (good_version number text.now) }
+    ensures { Gives (λ v. v) result (spec.good_version number text.now) }
 {
     match Version::parse(alloc, text) {
         Ok(version) => Ok(version),
@@ -82,7 +72,7 @@ fn read_version(alloc: Global, number: u64, text: &[u8]) -> Result<Version, Inde
 
 #[tactic(auto, unfolding(crate::specs::Reading::head_of))]
 fn read_head<'s>(alloc: Global, number: u64, stanza: &'s Stanza) -> Result<Head<'s>, IndexError>
-    ensures { Gives head_view result (head_of number stanza.now) }
+    ensures { Gives head_view result (spec.head_of number stanza.now) }
 {
     let name = mandatory(stanza, number, "Package")?;
     let version = mandatory(stanza, number, "Version")?;
@@ -99,7 +89,7 @@ fn read_head<'s>(alloc: Global, number: u64, stanza: &'s Stanza) -> Result<Head<
 }
 
 fn relation_text<'s>(stanza: &'s Stanza, field: RelField) -> &'s [u8]
-    ensures { result.now ≡ relation_text stanza.now field }
+    ensures { result.now ≡ spec.relation_text stanza.now field }
 {
     stanza.field(field.name()).unwrap_or(&[])
 }
@@ -122,7 +112,7 @@ fn read_groups(
     stanza: &Stanza,
     field: RelField,
 ) -> Result<Groups, IndexError>
-    ensures { Gives (λ g. g) result (groups_in number stanza.now field) }
+    ensures { Gives (λ g. g) result (spec.groups_in number stanza.now field) }
 {
     Groups::parse(alloc, relation_text(stanza, field)).map_err(|error| fault_in(
         error, number, field,
@@ -135,13 +125,13 @@ fn read_atoms(
     stanza: &Stanza,
     field: RelField,
 ) -> Result<Vec<Atom>, IndexError>
-    ensures { Gives (λ v. map atom_view v.items) result (atoms_in number stanza.now field) }
+    ensures { Gives (λ v. map atom_view v.items) result (spec.atoms_in number stanza.now field) }
 {
     parse_list(alloc, relation_text(stanza, field)).map_err(|error| fault_in(error, number, field))
 }
 
 fn is_provided(atom: &Atom) -> bool
-    ensures { result ≡ is_provided (atom_view atom.now) }
+    ensures { result ≡ spec.is_provided (atom_view atom.now) }
 {
     match &atom.bound {
         None => true,
@@ -150,7 +140,7 @@ fn is_provided(atom: &Atom) -> bool
 }
 
 fn are_provided(atoms: &[Atom]) -> bool
-    ensures { result ≡ list_all is_provided (map atom_view atoms.now) }
+    ensures { result ≡ list_all spec.is_provided (map atom_view atoms.now) }
 {
     for atom in atoms {
         if !is_provided(atom) {
@@ -162,7 +152,7 @@ fn are_provided(atoms: &[Atom]) -> bool
 
 #[tactic(auto, unfolding(crate::specs::Reading::provides_in))]
 fn read_provides(alloc: Global, number: u64, stanza: &Stanza) -> Result<Vec<Atom>, IndexError>
-    ensures { Gives (λ v. map atom_view v.items) result (provides_in number stanza.now) }
+    ensures { Gives (λ v. map atom_view v.items) result (spec.provides_in number stanza.now) }
 {
     let atoms = read_atoms(alloc, number, stanza, RelField::Provides)?;
     if are_provided(&atoms) {
@@ -186,52 +176,31 @@ fn says(stanza: &Stanza, name: &str, value: &[u8]) -> bool
     }
 }
 
-// The relationships of a stanza, which make a package with what its head says.
 #[tactic(auto, unfolding(crate::specs::Reading::package_of))]
-fn read_relations(alloc: Global, number: u64, stanza: &Stanza) -> Result<Relations, IndexError>
-    ensures { (head : HeadView) → Gives (package_with stanza.now head) result (package_of number stanza.now head) }
-{
-    let pre_depends = read_groups(alloc, number, stanza, RelField::PreDepends)?;
-    let depends = read_groups(alloc, number, stanza, RelField::Depends)?;
-    let conflicts = read_atoms(alloc, number, stanza, RelField::Conflicts)?;
-    let breaks = read_atoms(alloc, number, stanza, RelField::Breaks)?;
-    let provides = read_provides(alloc, number, stanza)?;
-    Ok(Relations {
-        pre_depends,
-        depends,
-        conflicts,
-        breaks,
-        provides,
-    })
-}
-
 fn read_package(
     alloc: Global,
     number: u64,
     stanza: &Stanza,
     head: Head,
 ) -> Result<Package, IndexError>
-    ensures { Gives package_view result (package_of number stanza.now (head_view head.entry)) }
+    ensures { Gives package_view result (spec.package_of number stanza.now (head_view head.entry)) }
 {
-    let name = SmallText::from_slice(alloc, head.name)?;
-    let architecture = SmallText::from_slice(alloc, head.architecture)?;
-    let relations = read_relations(alloc, number, stanza)?;
     Ok(Package {
-        name,
-        version: head.version,
-        architecture,
+        name: SmallText::from_slice(alloc, head.name)?,
+        architecture: SmallText::from_slice(alloc, head.architecture)?,
         essential: says(stanza, "Essential", b"yes".as_slice()),
         multi_arch_allowed: says(stanza, "Multi-Arch", b"allowed".as_slice()),
-        pre_depends: relations.pre_depends,
-        depends: relations.depends,
-        conflicts: relations.conflicts,
-        breaks: relations.breaks,
-        provides: relations.provides,
+        pre_depends: read_groups(alloc, number, stanza, RelField::PreDepends)?,
+        depends: read_groups(alloc, number, stanza, RelField::Depends)?,
+        conflicts: read_atoms(alloc, number, stanza, RelField::Conflicts)?,
+        breaks: read_atoms(alloc, number, stanza, RelField::Breaks)?,
+        provides: read_provides(alloc, number, stanza)?,
+        version: head.version,
     })
 }
 
 fn is_for(arch: &[u8], architecture: &[u8]) -> bool
-    ensures { result ≡ is_for arch.now architecture.now }
+    ensures { result ≡ spec.is_for arch.now architecture.now }
 {
     architecture == arch || architecture == b"all".as_slice()
 }
@@ -244,7 +213,7 @@ fn read_fields(
     number: u64,
     stanza: &Stanza,
 ) -> Result<Reading, IndexError>
-    ensures { Gives reading_view result (reading_of arch.now number stanza.now) }
+    ensures { Gives reading_view result (spec.reading_of arch.now number stanza.now) }
 {
     let head = read_head(alloc, number, stanza)?;
     if is_for(arch, head.architecture) {
