@@ -25,6 +25,7 @@ pub mod PartedLemmas
 pub mod PieceLemmas
 pub mod EnumerateLemmas
 pub mod NameLemmas
+pub mod NameGrowth
 pub mod NumberedLemmas
 pub mod ProvidedLemmas
 pub mod BuiltLemmas

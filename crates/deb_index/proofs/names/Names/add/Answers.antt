@@ -1,7 +1,8 @@
 use Rattle.std.proofs.Common.{◌≡◌, ◌++◌, ◌∷◌, [], Some, None, ap, sym, refl, ◌∙◌, arith}
 use Rattle.deb_index.specs.Tables.{number_in}
 use Rattle.deb_index.specs.Names.{name_texts}
-use Rattle.deb_index.proofs.NameLemmas.{add-new, add-there, number-last}
+use Rattle.deb_index.proofs.NameGrowth.{add-new, add-there}
+use Rattle.deb_index.proofs.NameLemmas.{number-last}
 use Rattle.deb_index.proofs.TableLemmas.{number-within}
 use Rattle.deb_index.proofs.names.Names.add.Goals as goal
 

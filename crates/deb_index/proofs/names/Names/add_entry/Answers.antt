@@ -1,5 +1,5 @@
 use Rattle.std.proofs.Common.{sym, refl, ◌∙◌, ap, ◌++◌, ◌∷◌, []}
-use Rattle.deb_index.proofs.NameLemmas.{entry-new, entry-there}
+use Rattle.deb_index.proofs.NameGrowth.{entry-new, entry-there}
 use Rattle.deb_index.proofs.names.Names.add_entry.Goals as goal
 
 pub returns-in_ok-push-in-Some : goal.returns-in_ok-push-in-Some
