@@ -1,9 +1,17 @@
-//! The packages that meet atoms, printed.
+//! Places, and those of the packages that meet atoms, printed.
 
-use crate::showing::append_places;
 use deb_index::Index;
 use deb_relation::{Atom, parse_list};
 use std::alloc::{AllocError, Global};
+
+/// Adds places: how many there are and the first one, where they are many.
+pub fn append_places(out: &mut String, places: &[u32]) -> Result<(), AllocError> {
+    if places.len() > 20 {
+        write!(out, " {} from {:?}", places.len(), places.first())
+    } else {
+        write!(out, " {places:?}")
+    }
+}
 
 /// Whether exactly those packages meet an atom that are at these places.
 fn are_met(index: &Index, atom: &Atom, places: &[u32]) -> bool {

@@ -2,7 +2,7 @@
 
 ghost use Rattle.std.specs.Prelude.{◌<◌, length};
 
-use crate::meeting::append_each_met;
+use crate::meeting::{append_each_met, append_places};
 use crate::reading::{Texts, read};
 use deb_index::{BothError, Index, Package};
 use deb_relation::Atom;
@@ -160,15 +160,6 @@ fn append_groups(out: &mut String, index: &Index) -> Result<(), AllocError> {
         append_apart_names(out, index, place)?;
     }
     Ok(())
-}
-
-/// Adds places: how many there are and the first one, where they are many.
-pub fn append_places(out: &mut String, places: &[u32]) -> Result<(), AllocError> {
-    if places.len() > 20 {
-        write!(out, " {} from {:?}", places.len(), places.first())
-    } else {
-        write!(out, " {places:?}")
-    }
 }
 
 fn append_row(out: &mut String, row: Option<&[u32]>) -> Result<(), AllocError> {
