@@ -1,10 +1,8 @@
 -- What is looked up by place: the rows of a package's groups and entries.
 use Rattle.std.specs.Prelude.{◌≡◌, ◌<◌, ◌≤◌, ◌+◌, ◌^◌, ℕ, List, [], ◌∷◌, ◌++◌, map, length, sum_by, take, drop}
 use Rattle.std.specs.List.{All, flat_map}
-use Rattle.deb_index.specs.declared.links.Linker.{Linker}
 use Rattle.deb_index.specs.declared.links.Links.{Links}
 use Rattle.deb_index.specs.declared.links.Start.{Start}
-use Rattle.deb_index.specs.declared.meets.Role.TheVariants.{Alternative, Entry}
 use Rattle.deb_index.specs.Packages.{PackageView, IndexView, aparts, essential_names, needs}
 use Rattle.deb_index.specs.Rows.{answer_row, hit_row}
 use Rattle.deb_index.specs.Tables.{asked_count, asked_limit}
@@ -24,17 +22,6 @@ pub record IsLinked (index : IndexView) (packages : List PackageView) (l : Links
   pub entry_starts : map (λ s. s.entry) l.starts.items ≡ starts_from (λ p. length (aparts p)) 0 packages
   pub groups : l.groups ≡ flat_map (λ p. map (answer_row index) (needs p)) packages
   pub entries : l.entries ≡ flat_map (λ p. map (hit_row index) (aparts p)) packages
-
--- the same while the rows are made: each list is looked up in the index in its role
-abbrev pub links_of : Linker → Links
-links_of l = record { starts = l.starts; groups = l.groups.rows; entries = l.entries.rows }
-
-pub record IsLinking (index : IndexView) (packages : List PackageView) (l : Linker) : Type 0 where
-  pub group_index : l.groups.index ≡ index
-  pub group_role : l.groups.role ≡ Alternative
-  pub entry_index : l.entries.index ≡ index
-  pub entry_role : l.entries.role ≡ Entry
-  pub linked : IsLinked index packages (links_of l)
 
 -- ---- by ranges of places
 

@@ -1,9 +1,7 @@
 //! The rows of places for the groups and entries of the packages, by place.
-ghost use Rattle.std.specs.Prelude.{◌≡◌, ◌+◌, ◌<◌, ◌≤◌, ◌^◌, ◌++◌, ◌∷◌, List, [], IfOk, OnOk, length, map, sum_by};
+ghost use Rattle.std.specs.Prelude.{◌≡◌, ◌+◌, ◌<◌, ◌^◌, ◌++◌, IfOk, OnOk, map};
 ghost use Rattle.std.specs.List.{All};
-ghost use Rattle.deb_index.specs.Packages.{PackageView, package_at};
-ghost use Rattle.deb_index.specs.Links.{AreJoined, CanFollow, IsLinked, IsLinking, IsRange, links_of, packages_in, start_behind};
-ghost use Rattle.deb_index.specs.Tables.{asked_count, asked_limit};
+ghost use Rattle.deb_index.specs.Links.{AreJoined, CanFollow, IsLinked, IsRange, packages_in, start_behind};
 
 use crate::lookup::Lookup;
 use crate::meets::Role;
@@ -53,11 +51,23 @@ impl Links {
         requires { IsRange lookup.now from to }
         ensures { IfOk result (λ l. IsLinked lookup.now (packages_in lookup.now from to) l) }
     {
-        let mut linker = Linker::new(alloc, lookup, to - from)?;
+        let mut starts = Vec::from_slice(alloc, &[Start { group: 0, entry: 0 }])?;
+        let mut groups = RoleRows::new(alloc, lookup, Role::Alternative, to - from)?;
+        let mut entries = RoleRows::new(alloc, lookup, Role::Entry, to - from)?;
         for place in from..to {
-            linker.add(lookup, place)?;
+            let asking = lookup.package(place);
+            groups.add_groups(asking)?;
+            entries.add_entries(asking)?;
+            starts.push(Start {
+                group: groups.len() as u32,
+                entry: entries.len() as u32,
+            })?;
         }
-        Ok(linker.finish())
+        Ok(Links {
+            starts,
+            groups: groups.into_rows(),
+            entries: entries.into_rows(),
+        })
     }
 
     /// These rows, and behind them those of more packages.
@@ -83,57 +93,5 @@ impl Links {
             groups,
             entries,
         })
-    }
-}
-
-// The same for the packages of a range so far, while the rows are made.
-#[derive(Drop)]
-struct Linker<'t> {
-    starts: Vec<Start>,
-    groups: RoleRows<'t>,
-    entries: RoleRows<'t>,
-}
-
-impl<'t> Linker<'t> {
-    // No packages yet, of so many that are to come.
-    fn new(alloc: Global, lookup: &'t Lookup<'t>, packages: u32) -> Result<Linker<'t>, AllocError>
-        ensures { IfOk result (λ l. IsLinking lookup.now [] l) }
-    {
-        let starts = Vec::from_slice(alloc, &[Start { group: 0, entry: 0 }])?;
-        let groups = RoleRows::new(alloc, lookup, Role::Alternative, packages)?;
-        let entries = RoleRows::new(alloc, lookup, Role::Entry, packages)?;
-        Ok(Linker {
-            starts,
-            groups,
-            entries,
-        })
-    }
-
-    // Adds the package at a place behind those so far.
-    fn add(&mut self, lookup: &'t Lookup<'t>, place: u32) -> Result<(), AllocError>
-        requires within { place < length lookup.now.packages }
-        requires linking { (ps : List PackageView) × IsLinking lookup.now ps self.old
-            × (sum_by asked_count (ps ++ package_at lookup.now place ∷ []) ≤ asked_limit) }
-        ensures { OnOk result ((ps : List PackageView) → IsLinking lookup.now ps self.old
-            → IsLinking lookup.now (ps ++ package_at lookup.now place ∷ []) self.new) }
-    {
-        let asking = lookup.package(place);
-        self.groups.add_groups(asking)?;
-        self.entries.add_entries(asking)?;
-        self.starts.push(Start {
-            group: self.groups.len() as u32,
-            entry: self.entries.len() as u32,
-        })?;
-        Ok(())
-    }
-
-    fn finish(self) -> Links
-        ensures { result ≡ links_of self.entry }
-    {
-        Links {
-            starts: self.starts,
-            groups: self.groups.into_rows(),
-            entries: self.entries.into_rows(),
-        }
     }
 }
