@@ -10,7 +10,7 @@ use Rattle.deb_index.specs.declared.links.Start.{Start}
 use Rattle.deb_index.specs.Packages.{IndexView, PackageView, aparts, aparts_at, apart_at, need_at, needs, needs_at, no_atom, no_package}
 use Rattle.deb_index.specs.Tables.{asked_count, asked_limit}
 use Rattle.deb_index.specs.Rows.{answer_row, hit_row}
-use Rattle.deb_index.specs.Links.{AreJoined, CanFollow, IsLinked, behind, starts_from}
+use Rattle.deb_index.specs.Links.{AreJoined, CanFollow, IsLinked, behind, entries_before, groups_before, starts_from}
 use Rattle.deb_index.proofs.PartLemmas.{flat-at, flat-push, flat-within, start-at, starts-joined, starts-length, starts-none, starts-push, sum-less, sum-more, sum-take}
 
 pub on-ok : {A E : Type 0} {P Q : Type 0} (r : Result A E) → (P → Q) → OnOk r P → OnOk r Q
@@ -202,42 +202,31 @@ module _ (index : IndexView) (l : Links) (k : IsLinked index index.packages l) w
   pub starts-long : length l.starts.items ≡ length index.packages + 1
   starts-long = parts-long group_of need_count index.packages l.starts.items k.group_starts
 
-  begins : (part : Start → ℕ) (count : PackageView → ℕ) → map part l.starts.items ≡ starts_from count 0 index.packages
-      → (i : ℕ) (s : Start) → i ≤ length index.packages → s ≡ get_or l.starts.items i s → part s ≡ sum_by count (take i index.packages)
-  begins part count are i s less at =
-      let inside : i < length l.starts.items = omega (arith, starts-long) in
-      ap part at ∙ part-at part count index.packages l.starts.items are i s inside
+  module _ (i : ℕ) (s : Start) (less : i ≤ length index.packages) (at : s ≡ get_or l.starts.items i s) where
+    pub group-start : s.group ≡ groups_before index i
+    group-start = ap group_of at ∙ part-at group_of need_count index.packages l.starts.items k.group_starts i s (omega (arith, starts-long))
 
-  pub group-start : (i : ℕ) (s : Start) → i ≤ length index.packages → s ≡ get_or l.starts.items i s → s.group ≡ sum_by need_count (take i index.packages)
-  group-start = begins group_of need_count k.group_starts
+    pub entry-start : s.entry ≡ entries_before index i
+    entry-start = ap entry_of at ∙ part-at entry_of apart_count index.packages l.starts.items k.entry_starts i s (omega (arith, starts-long))
 
-  pub entry-start : (i : ℕ) (s : Start) → i ≤ length index.packages → s ≡ get_or l.starts.items i s → s.entry ≡ sum_by apart_count (take i index.packages)
-  entry-start = begins entry_of apart_count k.entry_starts
+  -- the rows of the package at a place
+  module _ (i : ℕ) (less : i < length index.packages) (first j : ℕ) where
+    pub group-within : first ≡ groups_before index i → j < length (needs_at index i) → first + j < length l.groups
+    group-within at h = row-within need_count (group_rows index) (groups-count index) index.packages l.groups k.groups i less j _ h (ap (λ m. m + j) at)
 
-  module _ (i : ℕ) (less : i < length index.packages) (s : Start) (at : s ≡ get_or l.starts.items i s) where
-    -- how many rows a package has
-    pub group-next : (t : Start) → t ≡ get_or l.starts.items (i + 1) t → t.group ≡ s.group + length (needs_at index i)
-    group-next t next =
-        let more : sum_by need_count (take (i + 1) index.packages) ≡ sum_by need_count (take i index.packages) + length (needs_at index i) = sum-more need_count index.packages i no_package less in
-        omega (arith, group-start i s (omega arith) at, group-start (i + 1) t (omega arith) next)
+    pub group-at : first ≡ groups_before index i → j < length (needs_at index i) → get_or l.groups (first + j) None ≡ answer_row index (need_at index i j)
+    group-at at h = row-at need_count (group_rows index) (groups-count index) index.packages l.groups k.groups i less j _ h (ap (λ m. m + j) at) ∙ get_or-map (answer_row index) (needs_at index i) j [] None h
 
-    pub entry-next : (t : Start) → t ≡ get_or l.starts.items (i + 1) t → t.entry ≡ s.entry + length (aparts_at index i)
-    entry-next t next =
-        let more : sum_by apart_count (take (i + 1) index.packages) ≡ sum_by apart_count (take i index.packages) + length (aparts_at index i) = sum-more apart_count index.packages i no_package less in
-        omega (arith, entry-start i s (omega arith) at, entry-start (i + 1) t (omega arith) next)
+    pub entry-within : first ≡ entries_before index i → j < length (aparts_at index i) → first + j < length l.entries
+    entry-within at h = row-within apart_count (entry_rows index) (entries-count index) index.packages l.entries k.entries i less j _ h (ap (λ m. m + j) at)
 
-    -- and which
-    module _ (j : ℕ) where
-      pub group-within : j < length (needs_at index i) → s.group + j < length l.groups
-      group-within h = row-within need_count (group_rows index) (groups-count index) index.packages l.groups k.groups i less j _ h (ap (λ m. m + j) (group-start i s (omega arith) at))
+    pub entry-at : first ≡ entries_before index i → j < length (aparts_at index i) → get_or l.entries (first + j) None ≡ hit_row index (apart_at index i j)
+    entry-at at h = row-at apart_count (entry_rows index) (entries-count index) index.packages l.entries k.entries i less j _ h (ap (λ m. m + j) at) ∙ get_or-map (hit_row index) (aparts_at index i) j no_atom None h
 
-      pub group-at : j < length (needs_at index i) → get_or l.groups (s.group + j) None ≡ answer_row index (need_at index i j)
-      group-at h = row-at need_count (group_rows index) (groups-count index) index.packages l.groups k.groups i less j _ h (ap (λ m. m + j) (group-start i s (omega arith) at))
-          ∙ get_or-map (answer_row index) (needs_at index i) j [] None h
+-- how many groups, and how many entries, a package has
+module _ (index : IndexView) (i : ℕ) (less : i < length index.packages) where
+  pub groups-next : groups_before index (i + 1) ≡ groups_before index i + length (needs_at index i)
+  groups-next = sum-more need_count index.packages i no_package less
 
-      pub entry-within : j < length (aparts_at index i) → s.entry + j < length l.entries
-      entry-within h = row-within apart_count (entry_rows index) (entries-count index) index.packages l.entries k.entries i less j _ h (ap (λ m. m + j) (entry-start i s (omega arith) at))
-
-      pub entry-at : j < length (aparts_at index i) → get_or l.entries (s.entry + j) None ≡ hit_row index (apart_at index i j)
-      entry-at h = row-at apart_count (entry_rows index) (entries-count index) index.packages l.entries k.entries i less j _ h (ap (λ m. m + j) (entry-start i s (omega arith) at))
-          ∙ get_or-map (hit_row index) (aparts_at index i) j no_atom None h
+  pub entries-next : entries_before index (i + 1) ≡ entries_before index i + length (aparts_at index i)
+  entries-next = sum-more apart_count index.packages i no_package less

@@ -16,6 +16,13 @@ starts_from count n (x ∷ xs) = n ∷ starts_from count (n + count x) xs
 abbrev pub first_position : IndexView → ℕ → ℕ
 first_position index place = length (essential_names index) + sum_by asked_count (take place index.packages)
 
+-- how many groups, and how many entries, the packages before a place have
+abbrev pub groups_before : IndexView → ℕ → ℕ
+groups_before index place = sum_by (λ p. length (needs p)) (take place index.packages)
+
+abbrev pub entries_before : IndexView → ℕ → ℕ
+entries_before index place = sum_by (λ p. length (aparts p)) (take place index.packages)
+
 -- the rows of some packages, and where those of each begin
 pub record IsLinked (index : IndexView) (packages : List PackageView) (l : Links) : Type 0 where
   pub group_starts : map (λ s. s.group) l.starts.items ≡ starts_from (λ p. length (needs p)) 0 packages

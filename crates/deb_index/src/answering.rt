@@ -42,7 +42,7 @@ impl Index {
         ensures row { IfSome result (λ row. row.now ≡ group_satisfiers self.now (need_at self.now place number)) }
         ensures short { is_some result ≡ nat_le (length (group_satisfiers self.now (need_at self.now place number))) row_limit }
     {
-        let first = self.links.starts[place as usize].group;
+        let first = self.start(place as usize).group;
         self.links.groups.get(first as usize + number as usize)
     }
 
@@ -77,7 +77,7 @@ impl Index {
         ensures row { IfSome result (λ row. row.now ≡ satisfiers self.now (apart_at self.now place number)) }
         ensures short { is_some result ≡ nat_le (length (satisfiers self.now (apart_at self.now place number))) row_limit }
     {
-        let first = self.links.starts[place as usize].entry;
+        let first = self.start(place as usize).entry;
         self.links.entries.get(first as usize + number as usize)
     }
 

@@ -94,7 +94,7 @@ impl Index {
         ensures few { length (constraints_of self.now) < 2 ^ 32 }
     {
         prove!(place <= self.len());
-        let start = self.links.starts[place as usize];
+        let start = self.start(place as usize);
         self.essential.len() as u32 + start.group + start.entry
     }
 

@@ -3,12 +3,13 @@ ghost use Rattle.std.specs.Prelude.{◌≡◌, ◌<◌, ◌≤◌, length, map, 
 ghost use Rattle.std.specs.Str.{bytes_eq};
 ghost use Rattle.deb_relation.specs.Relationship.{atom_view};
 ghost use Rattle.deb_index.specs.Packages.{package_view, names, places_of, essential_names, needs_at, aparts_at, need_at, apart_at, package_at, name_at};
+ghost use Rattle.deb_index.specs.Links.{entries_before, groups_before};
 ghost use Rattle.deb_index.specs.Reading.{stanza_limit};
 ghost use Rattle.deb_index.specs.Meets.{provided_at};
 ghost use Rattle.deb_index.specs.Tables.{asked_count, asked_limit};
 
 use crate::catalog::Catalog;
-use crate::links::Links;
+use crate::links::{Links, Start};
 use crate::package::Package;
 use deb_relation::Atom;
 use std::marker::Model;
@@ -91,13 +92,22 @@ impl Index {
         &self.catalog.packages[place as usize]
     }
 
+    // Where the rows of the package at a place begin, and behind the last place where all end.
+    pub(crate) fn start(&self, place: usize) -> Start
+        requires { place ≤ length self.now.packages }
+        ensures group { result.group ≡ groups_before self.now place }
+        ensures entry { result.entry ≡ entries_before self.now place }
+    {
+        self.links.starts[place]
+    }
+
     /// How many groups the package at a place needs: those of Pre-Depends and of Depends (Debian Policy 7.2).
     pub fn need_count(&self, place: u32) -> u32
         requires { place < length self.now.packages }
         ensures { result ≡ length (needs_at self.now place) }
     {
         let place = place as usize;
-        self.links.starts[place + 1].group - self.links.starts[place].group
+        self.start(place + 1).group - self.start(place).group
     }
 
     /// The alternatives of a group that the package at a place needs (Debian Policy 7.2). Groups are numbered from 0: those
@@ -116,7 +126,7 @@ impl Index {
         ensures { result ≡ length (aparts_at self.now place) }
     {
         let place = place as usize;
-        self.links.starts[place + 1].entry - self.links.starts[place].entry
+        self.start(place + 1).entry - self.start(place).entry
     }
 
     /// An entry that the package at a place stands apart from (Debian Policy 7.3 and 7.4). Entries are numbered from 0: those
