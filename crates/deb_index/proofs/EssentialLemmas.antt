@@ -1,58 +1,71 @@
--- Which names are essential, by the places of each.
-use Rattle.std.proofs.Common.{◌≡◌, ◌<◌, ◌≤◌, ◌+◌, ℕ, Bool, true, false, cond, ◌&&◌, List, [], ◌∷◌, ◌++◌, map, filter, length, get_or, Some, refl, sym, ap, ◌∙◌, subst, take, arith}
-use Prim.Native.Nat.{suc}
-use Rattle.std.specs.Prelude.{slice_get}
-use Rattle.std.specs.List.{list_any, enumerate_from}
-use Rattle.std.specs.Option.{option_map_or}
-use Rattle.std.proofs.lemmas.List.{length-take-le, take_more}
-use Rattle.deb_index.specs.Packages.{IndexView, PackageView, is_essential, is_named, name_at, names, places_where}
-use Rattle.deb_index.specs.declared.names.Lists.{Lists}
-use Rattle.deb_index.specs.declared.names.Names.{Names}
-use Rattle.deb_index.specs.Built.{is_marked}
-use Rattle.deb_index.specs.Names.{IsNaming, name_texts}
-use Rattle.deb_index.proofs.EnumerateLemmas.{places-push}
-use Rattle.deb_index.proofs.NameLemmas.{lists-count, only-packages, places-at}
+-- Which names are essential, by the numbers of the packages that are marked.
+use Rattle.std.proofs.Common.{◌≡◌, ◌<◌, ◌+◌, ℕ, suc, zero, Bool, true, false, ◌&&◌, ◌||◌, eqb, List, [], ◌∷◌, ◌++◌, map, length, get_or, slice_get, Option, Some, None, refl, sym, ap, ◌∙◌, take, arith}
+use Rattle.std.specs.List.{list_any}
+use Rattle.std.specs.Option.{option_map, option_map_or}
+use Rattle.std.specs.Str.{bytes_eq}
+use Rattle.std.proofs.lemmas.Bool.{eq-eqb, eqb-true, false≢true, false_from_ne_true}
+use Rattle.std.proofs.lemmas.List.{get_or-map, length-map, take_more}
+use Rattle.std.proofs.lemmas.Option.{none-some, same_Some}
+use Rattle.deb_index.specs.declared.package.Package.{Package}
+use Rattle.deb_index.specs.Packages.{PackageView, is_in, is_named, no_package, package_view}
+use Rattle.deb_index.specs.Tables.{number_in}
+use Rattle.deb_index.proofs.FirstLemmas.{name-itself, same-name}
+use Rattle.deb_index.proofs.FoundLemmas.{or-none}
+use Rattle.deb_index.proofs.KeyLemmas.{any-push}
+use Rattle.deb_index.proofs.OnceLemmas.{same-test}
+use Rattle.deb_index.proofs.TableLemmas.{IsApart, some-any}
 
-no-places : {A : Type 0} (n : ℕ) (xs : List A) → map (λ (e : ℕ × A). e.0) (filter (λ (e : ℕ × A). false) (enumerate_from n xs)) ≡ []
-no-places n [] = refl
-no-places n (x ∷ xs) = no-places (n + 1) xs
+-- a name's number is its place, where no name stands twice
+number-of : (ks : List (List ℕ)) (n : ℕ) (name : List ℕ) → IsApart ks → slice_get ks n ≡ Some name → number_in name ks ≡ Some n
+number-of [] n name apart at = absurd (none-some name at)
+number-of (k ∷ ks) zero name apart at = rw (ap (bytes_eq name) (same_Some k name at) ∙ name-itself name) refl
+number-of (k ∷ ks) (suc n) name apart at =
+    let later : number_in name ks ≡ Some n = number-of ks n name apart.1 at in
+    let differs : bytes_eq name k ≡ false = false_from_ne_true (bytes_eq name k) (λ same. false≢true (sym apart.0 ∙ ap (λ m. list_any (bytes_eq m) ks) (sym (same-name name k same)) ∙ some-any name ks n later)) in
+    rw differs (ap (option_map (λ i. suc i)) later)
 
-pub places-none : {A : Type 0} (xs : List A) → places_where (λ (x : A). false) xs ≡ []
-unfolding places_where
-places-none xs = no-places 0 xs
+same-number : (ks : List (List ℕ)) (n q : ℕ) (a b : List ℕ) → IsApart ks → slice_get ks n ≡ Some a → slice_get ks q ≡ Some b → bytes_eq b a ≡ eqb n q
+same-number ks n q a b apart at too = same-test (bytes_eq b a) (eqb n q)
+    (λ same. eq-eqb n q (same_Some n q (sym (number-of ks n a apart at) ∙ ap (λ m. number_in m ks) (sym (same-name b a same)) ∙ number-of ks q b apart too)))
+    (λ same. ap (bytes_eq b) (same_Some a b (sym at ∙ ap (slice_get ks) (eqb-true n q same) ∙ too)) ∙ name-itself b)
 
--- a mark at the places of what passes a test
-module _ (test : PackageView → Bool) (all : List PackageView) where
-  marked-from : (n : ℕ) (xs : List PackageView) → ((j : ℕ) → slice_get all (n + j) ≡ slice_get xs j)
-      → list_any (λ (place : ℕ). option_map_or (λ (q : PackageView). q.essential) (slice_get all place) false) (map (λ (e : ℕ × PackageView). e.0) (filter (λ (e : ℕ × PackageView). test e.1) (enumerate_from n xs)))
-      ≡ list_any (λ (p : PackageView). test p && p.essential) xs
-  marked-from n [] h = refl
-  marked-from n (x ∷ xs) h =
-      let behind : (j : ℕ) → slice_get all ((n + 1) + j) ≡ slice_get xs j = λ j. let k : (n + 1) + j ≡ n + suc j = omega arith in ap (slice_get all) k ∙ h (suc j) in
-      let here : slice_get all n ≡ Some x = let k : n ≡ n + 0 = omega arith in ap (slice_get all) k ∙ h 0 in
-      grind (arith, here, marked-from (n + 1) xs behind)
+-- a number is that of a name which some package has and is marked, where marks count
+abbrev pub has_mark : Bool → List (List ℕ) → List PackageView → ℕ → Bool
+has_mark counts ks packages q = option_map_or (λ name. counts && list_any (λ (p : PackageView). is_named name p && p.essential) packages) (slice_get ks q) false
 
-pub marked-places : (test : PackageView → Bool) (packages : List PackageView)
-    → list_any (λ (place : ℕ). option_map_or (λ (q : PackageView). q.essential) (slice_get packages place) false) (places_where test packages) ≡ list_any (λ (p : PackageView). test p && p.essential) packages
-unfolding places_where
-marked-places test packages = marked-from test packages 0 packages (λ j. ap (slice_get packages) (let k : 0 + j ≡ j = omega arith in k))
+pub none-marked : (counts : Bool) (o : Option (List ℕ)) → false ≡ option_map_or (λ (name : List ℕ). counts && false) o false
+none-marked counts None = refl
+none-marked counts (Some name) = grind arith
 
--- a step of the walk over the names
-module _ (index : IndexView) {names_kept : Names} (n : IsNaming index.packages [] names_kept) where
-  pub lists-all : length names_kept.lists.items ≡ length (names index)
-  lists-all = lists-count n ∙ ap length (only-packages n)
+mark-push : (counts : Bool) (packages : List PackageView) (p : PackageView) (o : Option (List ℕ)) → option_map_or (λ name. counts && list_any (λ (r : PackageView). is_named name r && r.essential) (packages ++ p ∷ [])) o false
+    ≡ (option_map_or (λ name. counts && list_any (λ (r : PackageView). is_named name r && r.essential) packages) o false || option_map_or (λ name. is_named name p && (counts && p.essential)) o false)
+mark-push counts packages p None = refl
+mark-push counts packages p (Some name) = grind (arith, any-push (λ (r : PackageView). is_named name r && r.essential) packages p)
 
-  module _ (i : ℕ) (l : Lists) (within : i < length names_kept.lists.items) (at : l ≡ get_or names_kept.lists.items i l) (may : index.with_essential ≡ true) where
-    essential-is : is_essential index (name_at index i) ≡ list_any (is_marked index) l.places.items
-    essential-is =
-        let there : i < length (name_texts names_kept) = subst (λ m. i < m) (lists-count n) within in
-        ap (λ b. b && list_any (λ (p : PackageView). is_named (name_at index i) p && p.essential) index.packages) may
-        ∙ sym (ap (list_any (is_marked index)) (places-at n i l there at ∙ ap (λ ks. places_where (is_named (get_or ks i [])) index.packages) (only-packages n)) ∙ marked-places (is_named (name_at index i)) index.packages)
+marked-at : (ks : List (List ℕ)) (n q : ℕ) (a : List ℕ) → IsApart ks → slice_get ks n ≡ Some a → (o : Option (List ℕ)) → slice_get ks q ≡ o → option_map_or (λ name. bytes_eq name a && true) o false ≡ eqb n q
+marked-at ks n q a apart at None too = sym (false_from_ne_true (eqb n q) (λ same. none-some a (sym too ∙ ap (slice_get ks) (sym (eqb-true n q same)) ∙ at)))
+marked-at ks n q a apart at (Some name) too = grind (arith, same-number ks n q a name apart at too)
 
-    pub essential-step : places_where (is_essential index) (take (i + 1) (names index)) ≡ places_where (is_essential index) (take i (names index)) ++ cond (list_any (is_marked index) l.places.items) (i ∷ []) []
-    essential-step =
-        let lt : i < length (names index) = subst (λ m. i < m) lists-all within in
-        let le : i ≤ length (names index) = omega arith in
-        ap (places_where (is_essential index)) (take_more (names index) i [] lt) ∙ places-push (is_essential index) (take i (names index)) (name_at index i)
-        ∙ ap (λ (m : ℕ). places_where (is_essential index) (take i (names index)) ++ cond (is_essential index (name_at index i)) (m ∷ []) []) (length-take-le i (names index) le)
-        ∙ ap (λ b. places_where (is_essential index) (take i (names index)) ++ cond b (i ∷ []) []) essential-is
+unmarked-at : (a : List ℕ) (o : Option (List ℕ)) → option_map_or (λ name. bytes_eq name a && false) o false ≡ false
+unmarked-at a None = refl
+unmarked-at a (Some name) = grind arith
+
+-- a package more
+module _ (counts : Bool) (ks : List (List ℕ)) (packages : List Package) (i : ℕ) (x : Package) (within : i < length packages) (at : x ≡ get_or packages i x) (q : ℕ) where
+  abbrev before : Bool
+  before = has_mark counts ks (take i (map package_view packages)) q
+
+  pub seen-as : get_or (map package_view packages) i no_package ≡ package_view x
+  seen-as = get_or-map package_view packages i x no_package within ∙ ap package_view (sym at)
+
+  mark-more : (m : Bool) → (counts && x.essential) ≡ m → has_mark counts ks (take (i + 1) (map package_view packages)) q ≡ (before || option_map_or (λ name. is_named name (package_view x) && m) (slice_get ks q) false)
+  mark-more m is =
+      ap (λ ps. has_mark counts ks ps q) (take_more (map package_view packages) i no_package (omega (arith, within, length-map packages package_view)) ∙ ap (λ p. take i (map package_view packages) ++ p ∷ []) seen-as)
+      ∙ mark-push counts (take i (map package_view packages)) (package_view x) (slice_get ks q) ∙ ap (λ b. before || option_map_or (λ name. is_named name (package_view x) && b) (slice_get ks q) false) is
+
+  pub mark-added : (n : ℕ) (found : List ℕ) → IsApart ks → slice_get ks n ≡ Some (package_view x).name → (counts && x.essential) ≡ true → is_in found q ≡ before → is_in (found ++ n ∷ []) q ≡ has_mark counts ks (take (i + 1) (map package_view packages)) q
+  mark-added n found apart leads is so_far =
+      any-push (λ place. eqb place q) found n ∙ (λ k. so_far k || sym (marked-at ks n q (package_view x).name apart leads (slice_get ks q) refl) k) ∙ sym (mark-more true is)
+
+  pub mark-past : (found : List ℕ) → (counts && x.essential) ≡ false → is_in found q ≡ before → is_in found q ≡ has_mark counts ks (take (i + 1) (map package_view packages)) q
+  mark-past found is so_far = so_far ∙ sym (mark-more false is ∙ ap (λ b. before || b) (unmarked-at (package_view x).name (slice_get ks q)) ∙ or-none before)

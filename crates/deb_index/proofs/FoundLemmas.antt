@@ -56,12 +56,12 @@ asked-taken before t places i q there = grind (arith, any-taken (λ place. eqb p
 
 -- ---- in their order they are the places that pass
 
-module _ (test : PackageView → Bool) (packages : List PackageView) (found : List ℕ) (rising : IsStrictlyIncreasing found) where
+module _ {A : Type 0} (test : A → Bool) (xs : List A) (found : List ℕ) (rising : IsStrictlyIncreasing found) where
   abbrev places : List ℕ
-  places = places_where test packages
+  places = places_where test xs
 
-  pub in-order : ((q : ℕ) → is_in found q ≡ option_map_or test (slice_get packages q) false) → found ≡ places
-  in-order same = rising-once found places rising (rising-places_where test packages) (λ q. same q ∙ sym (member-places_where test packages q))
+  pub in-order : ((q : ℕ) → is_in found q ≡ option_map_or test (slice_get xs q) false) → found ≡ places
+  in-order same = rising-once found places rising (rising-places_where test xs) (λ q. same q ∙ sym (member-places_where test xs q))
 
   abbrev kept : List ℕ
   kept = filter (is_in found) places
@@ -70,10 +70,10 @@ module _ (test : PackageView → Bool) (packages : List PackageView) (found : Li
   kept-same q there = grind (arith, there, any-filter_same (λ place. eqb place q) (is_in found) (is_in found q) (λ place at. ap (is_in found) (eqb-true place q at)) places)
 
   -- some of them are no more than all
-  pub among-few : ((q : ℕ) → is_in found q ≡ true → option_map_or test (slice_get packages q) false ≡ true) → length found ≤ length places
+  pub among-few : ((q : ℕ) → is_in found q ≡ true → option_map_or test (slice_get xs q) false ≡ true) → length found ≤ length places
   among-few among =
-      let same : found ≡ kept = rising-once found kept rising (IsStrictlyIncreasing-filter (is_in found) places (rising-places_where test packages))
-      (λ q. kept-same q (λ there. member-places_where test packages q ∙ among q there)) in
+      let same : found ≡ kept = rising-once found kept rising (IsStrictlyIncreasing-filter (is_in found) places (rising-places_where test xs))
+      (λ q. kept-same q (λ there. member-places_where test xs q ∙ among q there)) in
       omega (arith, ap length same, length-filter (is_in found) places, count_by-le-length (is_in found) places)
 
 -- those of one atom more

@@ -204,11 +204,14 @@ pub numbers-long : (packages : List PackageView) (numbers : List ℕ) → AreNum
 numbers-long packages numbers are = sym (length-map numbers (λ n. slice_get (package_names packages) n)) ∙ ap length are ∙ length-map packages (λ (p : PackageView). Some p.name)
 
 -- a package's number leads to its name
+pub number-names : (packages : List PackageView) (numbers : List ℕ) (i n : ℕ) → AreNumbers packages numbers → i < length packages → n ≡ get_or numbers i n → slice_get (package_names packages) n ≡ Some (get_or packages i no_package).name
+number-names packages numbers i n are less at =
+    let names = package_names packages in
+    let within : i < length numbers = subst (λ m. i < m) (sym (numbers-long packages numbers are)) less in
+    ap (λ m. slice_get names m) at ∙ sym (get_or-map (λ m. slice_get names m) numbers i n None within) ∙ ap (λ (l : List (Option (List ℕ))). get_or l i None) are ∙ get_or-map (λ (p : PackageView). Some p.name) packages i no_package None less
+
 pub number-leads : (packages : List PackageView) (numbers : List ℕ) (i n : ℕ) → AreNumbers packages numbers → i < length packages → n ≡ get_or numbers i n
     → (n < length (package_names packages)) × (get_or (package_names packages) n [] ≡ (get_or packages i no_package).name)
 number-leads packages numbers i n are less at =
-    let names = package_names packages in
-    let within : i < length numbers = subst (λ m. i < m) (sym (numbers-long packages numbers are)) less in
-    let leads : slice_get names n ≡ Some (get_or packages i no_package).name =
-    ap (λ m. slice_get names m) at ∙ sym (get_or-map (λ m. slice_get names m) numbers i n None within) ∙ ap (λ (l : List (Option (List ℕ))). get_or l i None) are ∙ get_or-map (λ (p : PackageView). Some p.name) packages i no_package None less in
-    (slice_get_within names n (get_or packages i no_package).name leads, get_or_from_slice_get names n (get_or packages i no_package).name [] leads)
+    let leads = number-names packages numbers i n are less at in
+    (slice_get_within (package_names packages) n (get_or packages i no_package).name leads, get_or_from_slice_get (package_names packages) n (get_or packages i no_package).name [] leads)

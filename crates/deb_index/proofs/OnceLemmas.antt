@@ -24,7 +24,7 @@ in-contains (x ∷ xs) q there =
 contains-in : (xs : List ℕ) (q : ℕ) → Contains xs q → is_in xs q ≡ true
 contains-in xs q at = list_any_at (λ place. eqb place q) xs at.0 q at.1 (eq-eqb (get_or xs at.0 q) q at.2)
 
-same-test : (a b : Bool) → (a ≡ true → b ≡ true) → (b ≡ true → a ≡ true) → a ≡ b
+pub same-test : (a b : Bool) → (a ≡ true → b ≡ true) → (b ≡ true → a ≡ true) → a ≡ b
 same-test a b to from = grind (arith, to, from)
 
 -- sorting, and leaving out what comes again, change no member

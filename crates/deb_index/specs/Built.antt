@@ -57,10 +57,6 @@ is_known packages later p = option_map_or (λ q. bytes_eq q.version p.version) (
 abbrev pub IsKnown : List PackageView → List (List ℕ × List ℕ) → Type 0
 IsKnown packages later = (p : PackageView) → list_any (λ q. same_package q p) packages ≡ is_known packages later p
 
--- there is a package at a place, and it is marked essential
-abbrev pub is_marked : IndexView → ℕ → Bool
-is_marked index place = option_map_or (λ p. p.essential) (slice_get index.packages place) false
-
 -- each stanza is counted once, and all numbers are small
 pub record IsCounted (index : IndexView) : Type 0 where
   pub counted : length index.packages + index.skipped + index.duplicates ≡ index.stanzas

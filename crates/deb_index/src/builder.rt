@@ -1,9 +1,9 @@
 //! An index while it is read.
 ghost use Rattle.std.specs.Prelude.{◌≡◌, ◌≢◌, ◌≤◌, ◌+◌, ◌*◌, [], Ok, Err, IfOk, IfErr, OnOk, length, map, sum_by};
-ghost use Rattle.std.specs.List.{fold, list_any};
+ghost use Rattle.std.specs.List.{fold};
 ghost use Rattle.deb_control.specs.Stanzas.{stanzas_of};
 ghost use Rattle.deb_index.specs.Packages.{essential_names};
-ghost use Rattle.deb_index.specs.Built.{ArePartsOf, HasRoomFor, HaveRoom, IsBuilt, IsForeseen, draft_view, is_marked, part_stanzas};
+ghost use Rattle.deb_index.specs.Built.{ArePartsOf, HasRoomFor, HaveRoom, IsBuilt, IsForeseen, draft_view, part_stanzas};
 ghost use Rattle.deb_index.specs.Reading.{byte_limit, collected, read_behind, reading_view, stanza_limit, with_foreground, with_reading};
 ghost use Rattle.deb_index.specs.Tables.{asked_count};
 
@@ -11,6 +11,7 @@ use crate::catalog::Catalog;
 use crate::duplicates::Draft;
 use crate::error::IndexError;
 use crate::limits::STANZA_LIMIT;
+use crate::lookup::put_in_order;
 use crate::names::Names;
 use crate::package::{Reading, next_reading};
 use crate::parts::{Part, Parted};
@@ -203,40 +204,17 @@ impl Builder {
         Ok(Unlinked { catalog, essential })
     }
 
-    // Whether there is a package at a place, and it is marked essential.
-    fn is_marked(&self, place: u32) -> bool
-        ensures { result ≡ is_marked self.now place }
-    {
-        match self.draft.catalog.packages.get(place as usize) {
-            Some(package) => package.essential,
-            None => false,
-        }
-    }
-
-    // Whether a package at one of some places is marked essential.
-    fn is_essential(&self, places: &[u32]) -> bool
-        ensures { result ≡ list_any (is_marked self.now) places.now }
-    {
-        for place in places {
-            if self.is_marked(*place) {
-                return true;
-            }
-        }
-        false
-    }
-
+    // The numbers of the essential names, rising.
     fn essential_names(&self, alloc: Global) -> Result<Vec<u32>, AllocError>
         ensures { IfOk result (λ v. v.items ≡ essential_names self.now) }
     {
         let mut found = Vec::new(alloc);
-        if !self.draft.catalog.with_essential {
-            return Ok(found);
-        }
-        for (number, lists) in self.draft.catalog.names.lists.iter().enumerate() {
-            if self.is_essential(lists.places.as_slice()) {
-                found.push(number as u32)?;
+        for (place, package) in self.draft.catalog.packages.iter().enumerate() {
+            if self.draft.catalog.with_essential & package.essential {
+                found.push(self.draft.catalog.numbers[place])?;
             }
         }
+        put_in_order(&mut found);
         Ok(found)
     }
 }

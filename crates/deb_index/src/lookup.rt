@@ -209,8 +209,8 @@ fn usable_as(role: Role, arch: &[u8], provider: &Package, atom: &Atom) -> bool
     }
 }
 
-// Sorts places, and leaves out those that come again.
-fn put_in_order(found: &mut Vec<u32>)
+/// Sorts numbers, and leaves out those that come again.
+pub(crate) fn put_in_order(found: &mut Vec<u32>)
     ensures same { (q : ℕ) → is_in found.new.items q ≡ is_in found.old.items q }
     ensures rising { IsStrictlyIncreasing found.new.items }
 {

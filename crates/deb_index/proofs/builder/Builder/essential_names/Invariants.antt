@@ -1,6 +1,7 @@
-use Rattle.std.proofs.Common.{◌≡◌, take}
-use Rattle.deb_index.specs.Packages.{is_essential, names, places_where}
+use Rattle.std.proofs.Common.{◌≡◌, ℕ, take}
+use Rattle.deb_index.specs.Packages.{is_in, names}
+use Rattle.deb_index.proofs.EssentialLemmas.{has_mark}
 use Rattle.deb_index.proofs.builder.Builder.essential_names.Given as goal
 
-abbrev pub invariant-loop-number : goal.invariant-loop-number
-invariant-loop-number l = l.found.items ≡ places_where (is_essential l.self) (take l.number (names l.self))
+abbrev pub invariant-loop-place : goal.invariant-loop-place
+invariant-loop-place l = (q : ℕ) → is_in l.found.items q ≡ has_mark l.self.with_essential (names l.self) (take l.place l.self.packages) q
