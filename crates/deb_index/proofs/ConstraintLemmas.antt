@@ -8,12 +8,13 @@ use Rattle.std.proofs.lemmas.List.Concat.{length-flat_map}
 use Rattle.std.proofs.lemmas.List.Elements.{All-append, All-map}
 use Rattle.std.proofs.lemmas.List.FromFn.{get_or-range_with_len, length-enumerate_from, length-range_with_len}
 use Rattle.std.proofs.lemmas.List.Sums.{sum_by-cons}
+use Rattle.deb_index.specs.declared.constraint.Constraint.{Constraint}
 use Rattle.deb_index.specs.declared.constraint.Constraint.TheVariants.{Essential, Need, Apart, Only}
 use Rattle.deb_index.specs.Packages.{IndexView, PackageView, aparts_at, essential_names, is_essential, names, needs_at, no_package, package_at, places_where}
 use Rattle.deb_index.specs.Constraints.{IsOfIndex, below, constraints_at, constraints_of}
 use Rattle.deb_index.specs.Tables.{asked_count, asked_limit}
 use Rattle.deb_index.specs.Reading.{stanza_limit}
-use Rattle.deb_index.proofs.RisingLemmas.{rising-at, where-rising}
+use Rattle.deb_index.proofs.MemberLemmas.{below-places_where}
 use Rattle.deb_index.proofs.EnumerateLemmas.{filter-length, first-length}
 
 -- ---- of the index
@@ -28,22 +29,21 @@ all-flat : {X A : Type 0} (P : A → Type 0) (f : X → List A) (xs : List X) �
 all-flat P f [] h = λ k d less. absurd (omega arith)
 all-flat P f (x ∷ xs) h = All-append P (f x) (flat_map f xs) (h 0 x (omega arith)) (all-flat P f xs (λ k d less. h (suc k) d (omega arith)))
 
-module _ (index : IndexView) where
-  at-within : (p : ℕ) → p < length index.packages → All (IsOfIndex index) (constraints_at index p)
-  at-within p less = All-append (IsOfIndex index) (map (λ j. Need p j) (below (length (needs_at index p)))) (map (λ j. Apart p j) (below (length (aparts_at index p))))
-      (All-map (IsOfIndex index) (λ j. Need p j) (below (length (needs_at index p))) (all-below (λ j. IsOfIndex index (Need p j)) (length (needs_at index p)) (λ j in_range. (less, in_range))))
-      (All-map (IsOfIndex index) (λ j. Apart p j) (below (length (aparts_at index p))) (all-below (λ j. IsOfIndex index (Apart p j)) (length (aparts_at index p)) (λ j in_range. (less, in_range))))
+-- what holds of the constraints of each kind holds of all
+pub all-constraints : (index : IndexView) (P : Constraint → Type 0) → All (λ n. P (Essential n)) (essential_names index) → ((p : ℕ) → p < length index.packages → (j : ℕ) → j < length (needs_at index p) → P (Need p j))
+    → ((p : ℕ) → p < length index.packages → (j : ℕ) → j < length (aparts_at index p) → P (Apart p j)) → ((n : ℕ) → n < length (names index) → P (Only n)) → All P (constraints_of index)
+unfolding constraints_of
+all-constraints index P essential need apart only =
+    All-append P (map (λ n. Essential n) (essential_names index) ++ flat_map (constraints_at index) (below (length index.packages))) (map (λ n. Only n) (below (length (names index))))
+    (All-append P (map (λ n. Essential n) (essential_names index)) (flat_map (constraints_at index) (below (length index.packages))) (All-map P (λ n. Essential n) (essential_names index) essential)
+    (all-flat P (constraints_at index) (below (length index.packages)) (all-below (λ p. All P (constraints_at index p)) (length index.packages) λ p less.
+    All-append P (map (λ j. Need p j) (below (length (needs_at index p)))) (map (λ j. Apart p j) (below (length (aparts_at index p))))
+    (All-map P (λ j. Need p j) (below (length (needs_at index p))) (all-below (λ j. P (Need p j)) (length (needs_at index p)) (need p less)))
+    (All-map P (λ j. Apart p j) (below (length (aparts_at index p))) (all-below (λ j. P (Apart p j)) (length (aparts_at index p)) (apart p less))))))
+    (All-map P (λ n. Only n) (below (length (names index))) (all-below (λ n. P (Only n)) (length (names index)) only))
 
-  essential-within : All (λ n. n < length (names index)) (essential_names index)
-  essential-within k d less = rising-at 0 (length (names index)) (essential_names index) k d (where-rising (is_essential index) (names index)) less
-
-  pub constraints-within : All (IsOfIndex index) (constraints_of index)
-  unfolding constraints_of
-  constraints-within = All-append (IsOfIndex index) (map (λ n. Essential n) (essential_names index) ++ flat_map (constraints_at index) (below (length index.packages))) (map (λ n. Only n) (below (length (names index))))
-      (All-append (IsOfIndex index) (map (λ n. Essential n) (essential_names index)) (flat_map (constraints_at index) (below (length index.packages)))
-      (All-map (IsOfIndex index) (λ n. Essential n) (essential_names index) essential-within)
-      (all-flat (IsOfIndex index) (constraints_at index) (below (length index.packages)) (all-below (λ p. All (IsOfIndex index) (constraints_at index p)) (length index.packages) at-within)))
-      (All-map (IsOfIndex index) (λ n. Only n) (below (length (names index))) (all-below (λ n. n < length (names index)) (length (names index)) (λ n less. less)))
+pub constraints-within : (index : IndexView) → All (IsOfIndex index) (constraints_of index)
+constraints-within index = all-constraints index (IsOfIndex index) (below-places_where (is_essential index) (names index)) (λ p less j few. (less, few)) (λ p less j few. (less, few)) (λ n less. less)
 
 -- ---- short
 

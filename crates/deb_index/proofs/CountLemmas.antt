@@ -1,10 +1,11 @@
 -- At most one member of a rising list passes a test where at most one is counted.
 use Rattle.std.proofs.Common.{◌≡◌, ℕ, ◌+◌, ◌<◌, ◌≤◌, Bool, true, false, cond, eqb, List, [], ◌∷◌, refl, ◌∙◌, ap, inl, inr, arith}
 use Rattle.std.specs.Prelude.{count_by}
+use Rattle.std.specs.List.Sorted.{IsStrictlyIncreasing}
 use Rattle.std.proofs.lemmas.List.Sums.{sum_by-cons}
 use Rattle.std.proofs.lemmas.Bool.{cases_Bool, false≢true, or_left, or_right, eq-eqb}
 use Rattle.deb_index.specs.Packages.{is_in}
-use Rattle.deb_index.proofs.RisingLemmas.{IsRising, rising-within}
+use Rattle.deb_index.proofs.OnceLemmas.{above-first, rising-tail}
 
 module _ (test : ℕ → Bool) where
   count-first : (x : ℕ) (xs : List ℕ) → test x ≡ true → count_by test (x ∷ xs) ≡ 1 + count_by test xs
@@ -36,18 +37,18 @@ module _ (test : ℕ → Bool) where
       let ih : count_by test xs ≤ 1 → is_in xs q ≡ true → is_in xs r ≡ true → q ≡ r = λ fewer a b. one-from-count xs fewer q r holds also a b in
       grind (arith, few, holds, also, there, too, count-first x xs, count-some xs r also, count-some xs q holds, sum_by-cons (λ y. cond {A = ℕ} (test y) 1 0) x xs, ih)
 
-  pub count-from-one : (n limit : ℕ) (xs : List ℕ) → IsRising n limit xs → ((q r : ℕ) → test q ≡ true → test r ≡ true → is_in xs q ≡ true → is_in xs r ≡ true → q ≡ r) → count_by test xs ≤ 1
-  count-from-one n limit [] rising one = omega arith
-  count-from-one n limit (x ∷ xs) rising one =
+  pub count-from-one : (xs : List ℕ) → IsStrictlyIncreasing xs → ((q r : ℕ) → test q ≡ true → test r ≡ true → is_in xs q ≡ true → is_in xs r ≡ true → q ≡ r) → count_by test xs ≤ 1
+  count-from-one [] rising one = omega arith
+  count-from-one (x ∷ xs) rising one =
       elim (cases_Bool (test x)) [
         | inl passes ↦
             let none : count_by test xs ≡ 0 = count-none xs (λ q holds there.
-            let later = rising-within (x + 1) limit xs q rising.2 there in
+            let later : x < q = above-first x xs rising q there in
             let same : x ≡ q = one x q passes holds (or_left (eqb x x) (is_in xs x) (eq-eqb x x refl)) (or_right (eqb x q) (is_in xs q) there) in
-            omega (arith, later.0)) in
+            omega (arith, later)) in
             omega (arith, count-first x xs passes)
         | inr fails ↦
-            let few : count_by test xs ≤ 1 = count-from-one (x + 1) limit xs rising.2 (λ q r holds also there too.
+            let few : count_by test xs ≤ 1 = count-from-one xs (rising-tail x xs rising) (λ q r holds also there too.
             one q r holds also (or_right (eqb x q) (is_in xs q) there) (or_right (eqb x r) (is_in xs r) too)) in
             omega (arith, count-past x xs fails)
       ]

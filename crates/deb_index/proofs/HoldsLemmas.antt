@@ -9,8 +9,8 @@ use Rattle.deb_index.specs.declared.constraint.Constraint.TheVariants.{Essential
 use Rattle.deb_index.specs.Packages.{IndexView, PackageView, apart_at, is_named, name_at, need_at, places_of, places_where}
 use Rattle.deb_index.specs.Meets.{group_satisfiers, meets, meets_need, satisfiers}
 use Rattle.deb_index.specs.Constraints.{Holds, answers, is_holding}
-use Rattle.deb_index.proofs.MemberLemmas.{member-places_where}
-use Rattle.deb_index.proofs.RisingLemmas.{any-member, member-any, where-rising}
+use Rattle.deb_index.proofs.MemberLemmas.{member-places_where, rising-places_where}
+use Rattle.deb_index.proofs.OnceLemmas.{any-member, member-any}
 use Rattle.deb_index.proofs.CountLemmas.{count-from-one, one-from-count}
 
 module _ {P A : Type 0} (test : P → A → Bool) where
@@ -87,5 +87,5 @@ module _ (index : IndexView) (set : ℕ → Bool) where
         | inr outside ↦ or_left (not (set p)) (not (list_any (other p) (satisfiers index (apart_at index p j)))) (not_from_false (set p) outside)
       ]
   test-from-holds (Only n) h = le-leb (count_by set (places_of index (name_at index n))) 1
-      (count-from-one set 0 _ (places_of index (name_at index n)) (where-rising (is_named (name_at index n)) index.packages) (λ q r inside also there too.
+      (count-from-one set (places_of index (name_at index n)) (rising-places_where (is_named (name_at index n)) index.packages) (λ q r inside also there too.
       h q r inside also (sym (member-places_where (is_named (name_at index n)) index.packages q) ∙ there) (sym (member-places_where (is_named (name_at index n)) index.packages r) ∙ too)))

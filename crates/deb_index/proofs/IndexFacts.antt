@@ -1,16 +1,17 @@
 -- What the definitions of an index give, and rising lists of places.
-use Rattle.std.proofs.Common.{◌≡◌, ℕ, ◌<◌, Bool, true, false, List, [], ◌∷◌, ◌++◌, length, map, Option, Some, None, slice_get, refl, subst, ◌∙◌, arith, All, ◌↔◌, sym, Contains, zero, suc, ◌≤◌}
-use Rattle.std.specs.List.{list_any, flat_map}
+use Rattle.std.proofs.Common.{◌≡◌, ℕ, ◌<◌, Bool, true, false, List, length, Option, Some, None, slice_get, refl, subst, ◌∙◌, arith, All, ◌↔◌, sym, Contains, zero, suc, ◌≤◌}
+use Rattle.std.specs.List.{list_any}
 use Rattle.std.specs.Option.{option_map_or}
 use Rattle.std.proofs.lemmas.Bool.{false≢true}
-use Rattle.std.proofs.lemmas.List.Elements.{All-append, All-map, All-contains_itself}
+use Rattle.std.proofs.lemmas.List.Elements.{All-contains_itself}
 use Rattle.std.proofs.lemmas.Option.{slice_get_within, get_or_from_slice_get}
 use Rattle.deb_relation.specs.Relationship.{AtomText}
 use Rattle.deb_index.specs.declared.constraint.Constraint.{Constraint}
 use Rattle.deb_index.specs.declared.constraint.Constraint.TheVariants.{Essential, Need, Apart, Only}
-use Rattle.deb_index.specs.Packages.{IndexView, PackageView, names, name_at, is_named, places_of, essential_names, needs_at, aparts_at, need_at, is_essential}
+use Rattle.deb_index.specs.Packages.{IndexView, PackageView, names, name_at, is_named, places_of, essential_names, need_at, is_essential}
 use Rattle.deb_index.specs.Meets.{meets, meets_at, meets_need, satisfiers}
-use Rattle.deb_index.specs.Constraints.{constraints_at, constraints_of, below, has_name, answers, Holds, HasOneOf}
+use Rattle.deb_index.specs.Constraints.{constraints_of, has_name, answers, Holds, HasOneOf}
+use Rattle.deb_index.proofs.ConstraintLemmas.{all-constraints}
 use Rattle.deb_index.proofs.HoldsLemmas.{group-at}
 use Rattle.deb_index.proofs.MemberLemmas.{member-places_where, below-places_where}
 use Rattle.number_sets.specs.Sets.{NumberSet, members_of}
@@ -31,24 +32,8 @@ IsRight index (Need p j) = Unit {0}
 IsRight index (Apart p j) = Unit {0}
 IsRight index (Only number) = Unit {0}
 
-All-flat_map : {A B : Type 0} (P : B → Type 0) (f : A → List B) → ((x : A) → All P (f x)) → (xs : List A) → All P (flat_map f xs)
-All-flat_map P f each [] = λ k d below. absurd (omega arith)
-All-flat_map P f each (x ∷ xs) = All-append P (f x) (flat_map f xs) (each x) (All-flat_map P f each xs)
-
-right_of_package : (index : IndexView) (p : ℕ) → All (IsRight index) (constraints_at index p)
-right_of_package index p =
-    All-append (IsRight index) (map (λ j. Need p j) (below (length (needs_at index p)))) (map (λ j. Apart p j) (below (length (aparts_at index p))))
-    (All-map (IsRight index) (λ j. Need p j) (below (length (needs_at index p))) (λ k d below. tt))
-    (All-map (IsRight index) (λ j. Apart p j) (below (length (aparts_at index p))) (λ k d below. tt))
-
 pub all_right : (index : IndexView) → All (IsRight index) (constraints_of index)
-unfolding constraints_of
-all_right index =
-    All-append (IsRight index) (map (λ n. Essential n) (essential_names index) ++ flat_map (constraints_at index) (below (length index.packages))) (map (λ n. Only n) (below (length (names index))))
-    (All-append (IsRight index) (map (λ n. Essential n) (essential_names index)) (flat_map (constraints_at index) (below (length index.packages)))
-    (All-map (IsRight index) (λ n. Essential n) (essential_names index) (All-contains_itself (essential_names index)))
-    (All-flat_map (IsRight index) (constraints_at index) (right_of_package index) (below (length index.packages))))
-    (All-map (IsRight index) (λ n. Only n) (below (length (names index))) (λ k d below. tt))
+all_right index = all-constraints index (IsRight index) (All-contains_itself (essential_names index)) (λ p less j few. tt) (λ p less j few. tt) (λ n less. tt)
 
 -- a test of what is at a place passes at places alone
 found_within : {A : Type 0} (test : A → Bool) (xs : List A) (q : ℕ) (found : Option A) → slice_get xs q ≡ found → option_map_or test found false ≡ true → q < length xs

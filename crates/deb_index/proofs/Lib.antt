@@ -9,7 +9,6 @@ pub mod SmallLemmas
 pub mod Examples
 pub mod BelowLemmas
 pub mod MemberLemmas
-pub mod RisingLemmas
 pub mod FoundLemmas
 pub mod ProviderLemmas
 pub mod ConstraintLemmas

@@ -8,7 +8,7 @@ use Rattle.std.proofs.lemmas.Bool.{or_parts}
 use Rattle.std.proofs.lemmas.List.{append-nil, get_or-map, get_or_append_left, length-append, length-map, map-append, map-id}
 use Rattle.std.proofs.lemmas.List.Elements.{filter-append}
 use Rattle.std.proofs.lemmas.List.Folds.{list_any-append}
-use Rattle.std.proofs.lemmas.Option.{get_or_from_slice_get, slice_get_read, slice_get_within, slice_get-get_or}
+use Rattle.std.proofs.lemmas.Option.{get_or_from_slice_get, slice_get_within, slice_get-get_or}
 use Rattle.deb_index.specs.declared.names.Lists.{Lists}
 use Rattle.deb_index.specs.declared.names.Names.{Names}
 use Rattle.deb_index.specs.Packages.{PackageView, first_of_each, is_named, no_package, places_where}
@@ -16,6 +16,7 @@ use Rattle.deb_index.specs.Tables.{items_of, number_in}
 use Rattle.deb_index.specs.Names.{AreNumbers, IsNaming, all_names, name_texts, package_names}
 use Rattle.deb_index.proofs.EnumerateLemmas.{first-length}
 use Rattle.deb_index.proofs.FirstLemmas.{any-map, name-itself}
+use Rattle.deb_index.proofs.PositionLemmas.{in-front}
 use Rattle.deb_index.proofs.TableLemmas.{any-first, get-there, no-items, none-any, number-within, position-is, some-any}
 
 -- ---- numbers of names
@@ -175,11 +176,6 @@ named-some packages name (Some i) e = sym (sym (named-there packages name) ∙ s
 
 -- ---- the numbers of the packages' names
 
-slice-front : (xs ys : List (List ℕ)) (k : ℕ) (x : List ℕ) → slice_get xs k ≡ Some x → slice_get (xs ++ ys) k ≡ Some x
-slice-front xs ys k x at =
-    let within = slice_get_within xs k x at in
-    slice_get_read (xs ++ ys) (length (xs ++ ys)) k x refl (omega (arith, within, length-append xs ys)) (sym (get_or_append_left xs ys x k within ∙ get_or_from_slice_get xs k x x at))
-
 numbers-stay : (ks more : List (List ℕ)) (numbers : List ℕ) (ps : List PackageView) → map (λ n. slice_get ks n) numbers ≡ map (λ (p : PackageView). Some p.name) ps
     → map (λ n. slice_get (ks ++ more) n) numbers ≡ map (λ (p : PackageView). Some p.name) ps
 numbers-stay ks more [] [] e = refl
@@ -188,7 +184,7 @@ numbers-stay ks more (n ∷ ns) [] e = absurd (let k = ap length e in omega arit
 numbers-stay ks more (n ∷ ns) (p ∷ ps) e =
     let here : slice_get ks n ≡ Some p.name = ap (λ (l : List (Option (List ℕ))). get_or l 0 None) e in
     let later : map (λ m. slice_get ks m) ns ≡ map (λ (q : PackageView). Some q.name) ps = ap (λ (l : List (Option (List ℕ))). drop 1 l) e in
-    (λ i. slice-front ks more n p.name here i ∷ numbers-stay ks more ns ps later i)
+    (λ i. in-front ks more n p.name here i ∷ numbers-stay ks more ns ps later i)
 
 -- one package more has the number of its name
 pub numbers-push : (packages : List PackageView) (numbers : List ℕ) (p : PackageView) (n : ℕ) → AreNumbers packages numbers → number_in p.name (package_names (packages ++ p ∷ [])) ≡ Some n → AreNumbers (packages ++ p ∷ []) (numbers ++ n ∷ [])

@@ -1,14 +1,14 @@
 -- Rising lists are one where their members are, and a list that is sorted, and whose repeats are left out, is such a one.
 use Rattle.std.proofs.Common.{◌≡◌, ℕ, suc, ◌<◌, ◌≤◌, Bool, true, false, eqb, List, [], ◌∷◌, Contains, get_or, refl, sym, ◌∙◌, ap, subst, inl, inr, arith}
-use Rattle.std.specs.List.{dedup}
+use Rattle.std.specs.List.{dedup, list_any}
 use Rattle.std.specs.List.Sorted.{IsPermutation, IsStrictlyIncreasing}
-use Rattle.std.proofs.lemmas.Bool.{false≢true, or_cases, or_left, eqb-true, eq-eqb, false_from_ne_true}
+use Rattle.std.proofs.lemmas.Bool.{false≢true, or_cases, or_left, or_right, eqb-true, eq-eqb, false_from_ne_true}
 use Rattle.std.proofs.lemmas.List.Folds.{list_any_at}
 use Rattle.std.proofs.lemmas.List.Kept.{AllPairs-from_increasing, Contains-dedup_nat, Contains-from_dedup}
 use Rattle.std.proofs.lemmas.List.Sorted.{list_any-IsPermutation}
 use Rattle.deb_index.specs.Packages.{is_in}
 
-rising-tail : (x : ℕ) (rest : List ℕ) → IsStrictlyIncreasing (x ∷ rest) → IsStrictlyIncreasing rest
+pub rising-tail : (x : ℕ) (rest : List ℕ) → IsStrictlyIncreasing (x ∷ rest) → IsStrictlyIncreasing rest
 rising-tail x rest rising k below = grind (arith, rising (suc k), below)
 
 -- ---- members
@@ -35,9 +35,22 @@ once-members xs sorted once moved are q =
     (λ there. contains-in (dedup eqb sorted) q (Contains-dedup_nat sorted q (in-contains sorted q there)))
     ∙ sym (list_any-IsPermutation (λ place. eqb place q) xs sorted moved)
 
+-- a member of the list that passes
+pub any-member : (test : ℕ → Bool) (xs : List ℕ) → list_any test xs ≡ true → (q : ℕ) × (test q ≡ true) × (is_in xs q ≡ true)
+any-member test [] holds = absurd (false≢true holds)
+any-member test (x ∷ xs) holds =
+    elim (or_cases (test x) (list_any test xs) holds) [
+      | inl here ↦ (x, here, or_left (eqb x x) (is_in xs x) (eq-eqb x x refl))
+      | inr later ↦ let at = any-member test xs later in (at.0, at.1, or_right (eqb x at.0) (is_in xs at.0) at.2)
+    ]
+
+pub member-any : (test : ℕ → Bool) (xs : List ℕ) (q : ℕ) → test q ≡ true → is_in xs q ≡ true → list_any test xs ≡ true
+member-any test [] q holds there = absurd (false≢true there)
+member-any test (x ∷ xs) q holds there = grind (arith, holds, there, member-any test xs q holds)
+
 -- ---- rising lists
 
-above-first : (x : ℕ) (rest : List ℕ) → IsStrictlyIncreasing (x ∷ rest) → (q : ℕ) → is_in rest q ≡ true → x < q
+pub above-first : (x : ℕ) (rest : List ℕ) → IsStrictlyIncreasing (x ∷ rest) → (q : ℕ) → is_in rest q ≡ true → x < q
 above-first x rest rising q there =
     let at = in-contains rest q there in
     let less : x < get_or rest at.0 q = AllPairs-from_increasing (x ∷ rest) rising 0 (suc at.0) q (omega arith) (omega (arith, at.1)) in

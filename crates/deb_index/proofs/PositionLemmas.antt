@@ -1,10 +1,13 @@
 -- Where each constraint stands in the list of all, and that it stands there once.
-use Rattle.std.proofs.Common.{◌≡◌, ℕ, suc, zero, ◌+◌, ◌<◌, ◌≤◌, List, [], ◌∷◌, ◌++◌, map, length, Some, slice_get, take, sum_by, refl, sym, ◌∙◌, ap, subst, inl, inr, ◌⊎◌, arith}
+use Rattle.std.proofs.Common.{◌≡◌, ℕ, suc, zero, ◌+◌, ◌<◌, ◌≤◌, ltb, List, [], ◌∷◌, ◌++◌, map, length, Some, slice_get, get_or, take, sum_by, refl, sym, ◌∙◌, ap, subst, inl, inr, ◌⊎◌, arith}
 use Rattle.std.specs.List.{flat_map, range_with_len}
+use Rattle.std.specs.List.Sorted.{IsStrictlyIncreasing}
 use Rattle.std.specs.Option.{option_map}
-use Rattle.std.proofs.lemmas.Option.{none-some, same_Some, slice_get-get_or, slice_get-map}
-use Rattle.std.proofs.lemmas.List.{length-append, length-map, take_all}
+use Rattle.std.proofs.lemmas.Bool.{cases_Bool, ltb-false, ltb-true}
+use Rattle.std.proofs.lemmas.Option.{get_or_from_slice_get, none-some, same_Some, slice_get-get_or, slice_get-map, slice_get_within}
+use Rattle.std.proofs.lemmas.List.{length-append, length-map, take_all, take_more}
 use Rattle.std.proofs.lemmas.List.Concat.{length-flat_map}
+use Rattle.std.proofs.lemmas.List.Kept.{AllPairs-from_increasing}
 use Rattle.std.proofs.lemmas.List.FromFn.{get_or-range_with_len, length-range_with_len}
 use Rattle.std.proofs.lemmas.List.Sums.{sum_by-cons}
 use Rattle.deb_index.specs.declared.constraint.Constraint.{Constraint}
@@ -15,7 +18,7 @@ use Rattle.deb_index.specs.Links.{first_position}
 use Rattle.deb_index.specs.Tables.{asked_count}
 use Rattle.deb_index.proofs.ConstraintLemmas.{at-length, sum-front}
 use Rattle.deb_index.proofs.PartLemmas.{sum-more, sum-take}
-use Rattle.deb_index.proofs.RisingLemmas.{IsRising, where-rising}
+use Rattle.deb_index.proofs.MemberLemmas.{rising-places_where}
 
 -- ---- lists
 
@@ -39,11 +42,7 @@ module _ {A : Type 0} where
 
   -- one element more
   pub next-taken : (xs : List A) (k : ℕ) (x : A) → slice_get xs k ≡ Some x → take (k + 1) xs ≡ take k xs ++ x ∷ []
-  next-taken [] k x at = absurd (none-some x at)
-  next-taken (z ∷ zs) zero x at = let same : z ≡ x = cc in ap (λ y. y ∷ []) same
-  next-taken (z ∷ zs) (suc k) x at =
-      let next : suc k + 1 ≡ suc (k + 1) = omega arith in
-      ap (λ n. take n (z ∷ zs)) next ∙ ap (λ l. z ∷ l) (next-taken zs k x at)
+  next-taken xs k x at = take_more xs k x (slice_get_within xs k x at) ∙ ap (λ y. take k xs ++ y ∷ []) (get_or_from_slice_get xs k x x at)
 
   side : (xs ys : List A) (k : ℕ) (x : A) → slice_get (xs ++ ys) k ≡ Some x → (slice_get xs k ≡ Some x) ⊎ ((j : ℕ) × (k ≡ length xs + j) × (slice_get ys j ≡ Some x))
   side [] ys k x at = inr (k, omega arith, at)
@@ -90,24 +89,24 @@ once-mapped : {A B : Type 0} (f : B → A) (back : A → B) (xs : List B) → ((
 once-mapped f back xs leads once k other x at too =
     once k other (back x) (mapped-back f back xs leads k ∙ ap (option_map back) at) (mapped-back f back xs leads other ∙ ap (option_map back) too)
 
-rising-least : (first limit : ℕ) (xs : List ℕ) (k x : ℕ) → IsRising first limit xs → slice_get xs k ≡ Some x → first ≤ x
-rising-least first limit [] k x r at = absurd (none-some x at)
-rising-least first limit (z ∷ zs) zero x r at = omega (arith, r.0, same_Some z x at)
-rising-least first limit (z ∷ zs) (suc k) x r at = omega (arith, r.0, rising-least (z + 1) limit zs k x r.2 at)
+once-before : (xs : List ℕ) → IsStrictlyIncreasing xs → (k other x : ℕ) → slice_get xs k ≡ Some x → slice_get xs other ≡ Some x → k < other → ⊥
+once-before xs rising k other x at too less =
+    let up : get_or xs k x < get_or xs other x = AllPairs-from_increasing xs rising k other x less (slice_get_within xs other x too) in
+    omega (arith, up, get_or_from_slice_get xs k x x at, get_or_from_slice_get xs other x x too)
 
-rising-once : (first limit : ℕ) (xs : List ℕ) → IsRising first limit xs → StandsOnce xs
-rising-once first limit [] r k other x at too = absurd (none-some x at)
-rising-once first limit (z ∷ zs) r zero zero x at too = refl
-rising-once first limit (z ∷ zs) r zero (suc other) x at too = absurd (omega (arith, same_Some z x at, rising-least (z + 1) limit zs other x r.2 too))
-rising-once first limit (z ∷ zs) r (suc k) zero x at too = absurd (omega (arith, same_Some z x too, rising-least (z + 1) limit zs k x r.2 at))
-rising-once first limit (z ∷ zs) r (suc k) (suc other) x at too = omega (arith, rising-once (z + 1) limit zs r.2 k other x at too)
-
-range-rising : (a n limit : ℕ) → a + n ≤ limit → IsRising a limit (range_with_len a n)
-range-rising a zero limit few = tt
-range-rising a (suc n) limit few = (omega arith, omega arith, range-rising (a + 1) n limit (omega arith))
+rising-once : (xs : List ℕ) → IsStrictlyIncreasing xs → StandsOnce xs
+rising-once xs rising k other x at too =
+    elim (cases_Bool (ltb k other)) [
+      | inl less ↦ absurd (once-before xs rising k other x at too (ltb-true k other less))
+      | inr less ↦ elim (cases_Bool (ltb other k)) [
+        | inl more ↦ absurd (once-before xs rising other k x too at (ltb-true other k more))
+        | inr more ↦ omega (arith, ltb-false k other less, ltb-false other k more)
+      ]
+    ]
 
 below-once : (n : ℕ) → StandsOnce (below n)
-below-once n = rising-once 0 n (below n) (range-rising 0 n n (omega arith))
+below-once n = rising-once (below n) λ k less.
+    omega (arith, less, length-range_with_len 0 n, get_or-range_with_len 0 n k 0 (omega (arith, less, length-range_with_len 0 n)), get_or-range_with_len 0 n (k + 1) 0 (omega (arith, less, length-range_with_len 0 n)))
 
 -- parts, each of which knows its number
 module _ {A : Type 0} (f : ℕ → List A) where
@@ -182,7 +181,7 @@ module _ (index : IndexView) where
   asked-each P need apart = each-flat (constraints_at index) P (below (length index.packages)) (λ p. at-each P p (need p) (apart p))
 
   essentials-once : StandsOnce essentials
-  essentials-once = once-mapped (λ n. Essential n) number (essential_names index) (λ n. refl) (rising-once 0 (length (names index)) (essential_names index) (where-rising (is_essential index) (names index)))
+  essentials-once = once-mapped (λ n. Essential n) number (essential_names index) (λ n. refl) (rising-once (essential_names index) (rising-places_where (is_essential index) (names index)))
 
   essentials-each : (P : Constraint → Type 0) → ((n : ℕ) → P (Essential n)) → HoldsOfEach P essentials
   essentials-each P = each-mapped P (λ n. Essential n) (essential_names index)
