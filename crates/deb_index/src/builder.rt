@@ -1,7 +1,6 @@
 //! An index while it is read.
-ghost use Rattle.std.specs.Prelude.{◌≡◌, ◌≢◌, ◌≤◌, ◌+◌, ◌*◌, [], Ok, Err, IfOk, IfErr, OnOk, length, map, sum_by};
-ghost use Rattle.std.specs.List.{fold};
-ghost use Rattle.deb_control.specs.Stanzas.{stanzas_of};
+ghost use Rattle.std.specs.Prelude.{◌≡◌, ◌≢◌, ◌≤◌, ◌+◌, ◌*◌, ℕ, List, [], Ok, Err, IfOk, IfErr, OnOk, length, map, sum_by};
+ghost use Rattle.std.specs.List.{flat_map, fold};
 ghost use Rattle.deb_index.specs.Packages.{essential_names};
 ghost use Rattle.deb_index.specs.Built.{ArePartsOf, HasRoomFor, HaveRoom, IsBuilt, IsForeseen, draft_view, part_stanzas};
 ghost use Rattle.deb_index.specs.Reading.{byte_limit, collected, read_behind, reading_view, stanza_limit, with_foreground, with_reading};
@@ -14,7 +13,7 @@ use crate::limits::STANZA_LIMIT;
 use crate::lookup::put_in_order;
 use crate::names::Names;
 use crate::package::{Reading, next_reading};
-use crate::parts::{Part, Parted};
+use crate::parts::Part;
 use crate::unlinked::Unlinked;
 use deb_control::Reader;
 use std::alloc::{AllocError, Global};
@@ -22,24 +21,23 @@ use std::collections::HashSet;
 use std::marker::Model;
 
 impl Draft {
-    // Takes in the stanzas of a text, or of a piece of it, part by part; so many stanzas stood in an earlier text.
-    fn add_text(
+    // Takes in the parts of a text, or of a piece of it; so many stanzas stood in an earlier text.
+    fn add_parts(
         &mut self,
         alloc: Global,
         before: u32,
-        text: Parted,
+        parts: Vec<Part>,
     ) -> Result<(), IndexError>
         requires built { IsBuilt self.old }
-        requires parts { ArePartsOf (draft_view self.old).arch text.text.now text.parts.items }
+        requires parts { (text : List ℕ) × ArePartsOf (draft_view self.old).arch text parts.items × (length text ≤ byte_limit) }
         requires begun { before ≤ self.old.catalog.stanzas }
-        requires short { length text.text.now ≤ byte_limit }
         requires few { self.old.catalog.stanzas ≤ stanza_limit }
         requires room { sum_by asked_count (draft_view self.old).packages ≤ byte_limit + 1 + 4 * self.old.catalog.stanzas }
         ensures built { OnOk result (IsBuilt self.new) }
-        ensures accepted { OnOk result (read_behind (draft_view self.old) before (stanzas_of text.entry.text.now) ≡ Ok (draft_view self.new)) }
-        ensures refused { IfErr result (λ e. e ≢ IndexError.Memory → read_behind (draft_view self.old) before (stanzas_of text.entry.text.now) ≡ Err e) }
+        ensures accepted { OnOk result (read_behind (draft_view self.old) before (flat_map part_stanzas parts.entry.items) ≡ Ok (draft_view self.new)) }
+        ensures refused { IfErr result (λ e. e ≢ IndexError.Memory → read_behind (draft_view self.old) before (flat_map part_stanzas parts.entry.items) ≡ Err e) }
     {
-        for part in text.parts {
+        for part in parts {
             self.add_part(alloc, before, part)?;
         }
         Ok(())
@@ -152,17 +150,16 @@ impl Builder {
         mut self,
         alloc: Global,
         before: u32,
-        text: Parted,
+        parts: Vec<Part>,
     ) -> Result<Builder, IndexError>
-        requires parts { ArePartsOf self.arch text.text.now text.parts.items }
+        requires parts { (text : List ℕ) × ArePartsOf self.arch text parts.items × (length text ≤ byte_limit) }
         requires begun { before ≤ self.stanzas }
-        requires short { length text.text.now ≤ byte_limit }
         requires few { self.stanzas ≤ stanza_limit }
         requires room { sum_by asked_count self.packages ≤ byte_limit + 1 + 4 * self.stanzas }
-        ensures accepted { IfOk result (λ b. read_behind self before (stanzas_of text.entry.text.now) ≡ Ok b) }
-        ensures refused { IfErr result (λ e. e ≢ IndexError.Memory → read_behind self before (stanzas_of text.entry.text.now) ≡ Err e) }
+        ensures accepted { IfOk result (λ b. read_behind self before (flat_map part_stanzas parts.entry.items) ≡ Ok b) }
+        ensures refused { IfErr result (λ e. e ≢ IndexError.Memory → read_behind self before (flat_map part_stanzas parts.entry.items) ≡ Err e) }
     {
-        match self.draft.add_text(alloc, before, text) {
+        match self.draft.add_parts(alloc, before, parts) {
             Ok(()) => Ok(self),
             Err(error) => {
                 drop(self.draft);

@@ -20,21 +20,13 @@ pub(crate) struct Part<'a> {
     pub(crate) found: Option<Vec<Reading>>,
 }
 
-/// A text and its parts, in order.
-#[derive(Drop)]
-pub(crate) struct Parted<'a> {
-    pub(crate) text: &'a [u8],
-    pub(crate) parts: Vec<Part<'a>>,
-}
-
 /// A text in one part, which is read when it is taken in.
-pub(crate) fn in_one(alloc: Global, text: &[u8]) -> Result<Parted<'_>, AllocError>
-    ensures text { IfOk result (λ parted. parted.text.now ≡ text.now) }
-    ensures parts { IfOk result (λ parted. (arch : List ℕ) → ArePartsOf arch text.now parted.parts.items) }
+pub(crate) fn in_one(alloc: Global, text: &[u8]) -> Result<Vec<Part<'_>>, AllocError>
+    ensures { IfOk result (λ parted. (arch : List ℕ) → ArePartsOf arch text.now parted.items) }
 {
     let mut parts = Vec::new(alloc);
     parts.push(Part { text, found: None })?;
-    Ok(Parted { text, parts })
+    Ok(parts)
 }
 
 /// A text in at most as many parts as there are workers, each of which reads one; a part of fewer than `2 * least` bytes is cut no further.
@@ -45,15 +37,13 @@ pub(crate) fn in_many<'a, R: Threads + Sync>(
     text: &'a [u8],
     workers: u32,
     least: usize,
-) -> Result<Parted<'a>, AllocError>
-    ensures text { IfOk result (λ parted. parted.text.now ≡ text.now) }
-    ensures parts { IfOk result (λ parted. ArePartsOf arch.now text.now parted.parts.items) }
+) -> Result<Vec<Part<'a>>, AllocError>
+    ensures { IfOk result (λ parted. ArePartsOf arch.now text.now parted.items) }
 {
     if workers < 2 {
         return in_one(alloc, text);
     }
-    let parts = read_parts(rt, alloc, arch, text, workers, least)?;
-    Ok(Parted { text, parts })
+    read_parts(rt, alloc, arch, text, workers, least)
 }
 
 // What the stanzas of a part read as, with numbers from 1.

@@ -7,5 +7,5 @@ at-arch : {A E : Type 0} (r : Result A E) (P : List ℕ → A → Type 0) → If
 at-arch (Ok x) P all arch = all arch
 at-arch (Err e) P all arch = tt
 
-pub returns-then-workers-lt2-clause-parts : goal.returns-then-workers-lt2-clause-parts
-returns-then-workers-lt2-clause-parts g c = at-arch c.in_one.result (λ arch parted. ArePartsOf arch c.args.text.now parted.parts.items) c.in_one.ensures.parts c.args.arch.now
+pub returns-then-workers-lt2 : goal.returns-then-workers-lt2
+returns-then-workers-lt2 g c = at-arch c.in_one.result (λ arch parted. ArePartsOf arch c.args.text.now parted.items) c.in_one.ensures c.args.arch.now

@@ -1,4 +1,4 @@
-use Rattle.std.proofs.Common.{◌≡◌, ◌≢◌, ◌∙◌, ◌+◌, ◌*◌, ◌≤◌, ℕ, List, Ok, Err, ap, sym, subst, subst₂, sum_by, arith}
+use Rattle.std.proofs.Common.{◌≡◌, ◌≢◌, ◌∙◌, ◌+◌, ◌*◌, ◌≤◌, ℕ, List, Ok, Err, ap, sym, subst, sum_by, arith}
 use Rattle.std.proofs.lemmas.Result.{err_from_is_err_and}
 use Rattle.deb_control.specs.Stanzas.{stanzas_of}
 use Rattle.deb_index.specs.declared.error.IndexError.TheVariants.{Memory}
@@ -11,8 +11,8 @@ use Rattle.deb_index.proofs.pieces.PartialIndex.finish.Goals as goal
 
 pub add_behind-requires-clause-parts : goal.add_behind-requires-clause-parts
 add_behind-requires-clause-parts g c =
-    let parts = c.in_ok-parted.parted.parts.items in
-    subst₂ (λ (a bytes : List ℕ). ArePartsOf a bytes parts) c.arch.ensures (sym c.in_ok-parted.ensures.text) c.in_ok-parted.ensures.parts
+    let parts = c.in_ok-parted.parted.items in
+    (c.args.background.now, subst (λ (a : List ℕ). ArePartsOf a c.args.background.now parts) c.arch.ensures c.in_ok-parted.ensures, c.requires)
 
 pub add_behind-requires-clause-few : goal.add_behind-requires-clause-few
 add_behind-requires-clause-few g c = subst (λ (v : IndexView). v.stanzas ≤ stanza_limit) (sym c.end_foreground-fore.ensures) c.self.invariant.few
@@ -29,7 +29,7 @@ returns-in-Err-clause-refused g c =
     let e = c.in-Err.error in
     let fault : e ≢ Memory → continued mid (readings mid.arch mid.stanzas 0 (stanzas_of c.args.background.now)) ≡ Err e =
     λ other. sym (behind-all mid c.stanzas-before.result c.args.background.now c.stanzas-before.ensures)
-    ∙ subst (λ (bytes : List ℕ). read_behind mid c.stanzas-before.result (stanzas_of bytes) ≡ Err e) c.in_ok-parted.ensures.text (c.in-Err.ensures.refused other) in
+    ∙ subst (λ (stanzas : List (List (List ℕ))). read_behind mid c.stanzas-before.result stanzas ≡ Err e) c.in_ok-parted.ensures.stanzas (c.in-Err.ensures.refused other) in
     let fails : FailsBehind old c.args.background.now c.in_back.result = λ other arch essential text is.
     let no_memory : e ≢ Memory = λ m. other (c.in_back.ensures.memory m) in
     front-back arch essential text old is mid c.end_foreground-fore.ensures c.args.background.now e (fault no_memory) ∙ ap Err (sym (c.in_back.ensures.value no_memory)) in
@@ -41,7 +41,7 @@ returns-clause-accepted g c =
     let mid = c.end_foreground-fore.result in
     let whole = c.in-Ok.both in
     let read = sym (behind-all mid c.stanzas-before.result c.args.background.now c.stanzas-before.ensures)
-    ∙ subst (λ (bytes : List ℕ). read_behind mid c.stanzas-before.result (stanzas_of bytes) ≡ Ok whole) c.in_ok-parted.ensures.text c.in-Ok.ensures.accepted in
+    ∙ subst (λ (stanzas : List (List (List ℕ))). read_behind mid c.stanzas-before.result stanzas ≡ Ok whole) c.in_ok-parted.ensures.stanzas c.in-Ok.ensures.accepted in
     let finishes : Finishes old c.args.background.now c.in_ok-index.index = λ arch essential text is.
     front-index arch essential text old is mid c.end_foreground-fore.ensures c.args.background.now whole read ∙ ap (λ (i : IndexView). Ok i) (sym (c.in_ok-index.ensures ∙ c.in_ok-unlinked.ensures)) in
     subst (λ (f : FrontView). Finishes f c.args.background.now c.in_ok-index.index) c.self.view_is finishes

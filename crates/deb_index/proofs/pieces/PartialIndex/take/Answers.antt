@@ -1,4 +1,4 @@
-use Rattle.std.proofs.Common.{◌≡◌, ◌≢◌, ◌+◌, ◌-◌, ℕ, List, Ok, Err, ap, sym, subst, subst₂, length, refl, arith}
+use Rattle.std.proofs.Common.{◌≡◌, ◌≢◌, ◌+◌, ◌-◌, ℕ, List, Ok, Err, ap, sym, subst, length, refl, arith}
 use Rattle.std.proofs.lemmas.Result.{err_from_is_err_and}
 use Rattle.deb_control.specs.Stanzas.{stanzas_of}
 use Rattle.deb_index.specs.declared.error.IndexError.TheVariants.{Memory}
@@ -10,12 +10,8 @@ use Rattle.deb_index.proofs.pieces.PartialIndex.take.Goals as goal
 
 pub add_behind-requires-clause-parts : goal.add_behind-requires-clause-parts
 add_behind-requires-clause-parts g c =
-    let parts = c.in_ok-parted.parted.parts.items in
-    subst₂ (λ (a bytes : List ℕ). ArePartsOf a bytes parts) c.arch.ensures (sym c.in_ok-parted.ensures.text) c.in_ok-parted.ensures.parts
-
-pub add_behind-requires-clause-short : goal.add_behind-requires-clause-short
-add_behind-requires-clause-short g c =
-    omega (arith, ap (λ (bytes : List ℕ). length bytes) c.in_ok-parted.ensures.text, ap (λ (f : FrontView). f.size) c.self.view_is, c.requires.short)
+    let parts = c.in_ok-parted.parted.items in
+    (c.args.piece.now, subst (λ (a : List ℕ). ArePartsOf a c.args.piece.now parts) c.arch.ensures c.in_ok-parted.ensures, omega (arith, ap (λ (f : FrontView). f.size) c.self.view_is, c.requires.short))
 
 pub add_behind-requires-clause-room : goal.add_behind-requires-clause-room
 add_behind-requires-clause-room g c = omega (arith, c.self.invariant.room, c.self.invariant.short)
@@ -27,7 +23,7 @@ returns-in_err-builder-clause-refused g c =
     let e = c.in_err-builder.field-0.0 in
     let p = err_from_is_err_and c.from_residual-in_err-builder.result c.from_residual-in_err-builder.ensures.1 in
     let fault : e ≢ Memory → read_behind v 0 (stanzas_of piece) ≡ Err e =
-    λ other. subst (λ (bytes : List ℕ). read_behind v 0 (stanzas_of bytes) ≡ Err e) c.in_ok-parted.ensures.text (c.in_err-builder.ensures.refused other) in
+    λ other. subst (λ (stanzas : List (List (List ℕ))). read_behind v 0 stanzas ≡ Err e) c.in_ok-parted.ensures.stanzas (c.in_err-builder.ensures.refused other) in
     let refuses : Refuses (front_of v c.self.inside.size) piece e =
     λ other arch essential text more closed is ends. front-fault arch essential text (front_of v c.self.inside.size) is piece more e closed ends (fault other) in
     rw (p.1, p.2) (subst (λ (f : FrontView). Refuses f piece e) c.self.view_is refuses)
@@ -38,7 +34,7 @@ invariant_of-result g c =
     let size = c.self.inside.size in
     let new = c.in_ok-builder.builder in
     let piece = c.args.piece.now in
-    let read = subst (λ (bytes : List ℕ). read_behind v 0 (stanzas_of bytes) ≡ Ok new) c.in_ok-parted.ensures.text c.in_ok-builder.ensures.accepted in
+    let read = subst (λ (stanzas : List (List (List ℕ))). read_behind v 0 stanzas ≡ Ok new) c.in_ok-parted.ensures.stanzas c.in_ok-builder.ensures.accepted in
     let t : Taken v (stanzas_of piece) new = taken v.arch 0 (v.stanzas - 0) (stanzas_of piece) v new read (omega arith) in
     stays-within (front_of v size) (front_of new (size + length piece)) piece c.self.invariant t refl (omega (arith, ap (λ (f : FrontView). f.size) c.self.view_is, c.requires.short))
 
@@ -48,7 +44,7 @@ returns-clause-accepted g c =
     let size = c.self.inside.size in
     let new = c.in_ok-builder.builder in
     let piece = c.args.piece.now in
-    let read = subst (λ (bytes : List ℕ). read_behind v 0 (stanzas_of bytes) ≡ Ok new) c.in_ok-parted.ensures.text c.in_ok-builder.ensures.accepted in
+    let read = subst (λ (stanzas : List (List (List ℕ))). read_behind v 0 stanzas ≡ Ok new) c.in_ok-parted.ensures.stanzas c.in_ok-builder.ensures.accepted in
     let next = front_of new (size + length piece) in
     let accepts : Accepts (front_of v size) piece next =
     λ arch essential text closed is. front-more arch essential text (front_of v size) is piece next closed read refl in

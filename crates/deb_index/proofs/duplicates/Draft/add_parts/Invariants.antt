@@ -3,7 +3,7 @@ use Rattle.std.specs.List.{AllByRecursion, flat_map}
 use Rattle.std.specs.Vec.Iter.{into_iter_items, into_iter_len}
 use Rattle.deb_index.specs.Built.{IsBuilt, draft_view, HasRoomFor, IsForeseen, part_stanzas}
 use Rattle.deb_index.specs.Reading.{byte_limit, continued, read_behind, readings, stanza_limit}
-use Rattle.deb_index.proofs.duplicates.Draft.add_text.Given as goal
+use Rattle.deb_index.proofs.duplicates.Draft.add_parts.Given as goal
 
 abbrev pub invariant-loop-part : goal.invariant-loop-part
 invariant-loop-part l = record {

@@ -5,36 +5,33 @@ use Rattle.std.proofs.lemmas.List.{nil_from_length}
 use Rattle.std.proofs.lemmas.Result.{err_from_is_err_and}
 use Rattle.deb_control.specs.Stanzas.{stanzas_of}
 use Rattle.deb_index.specs.declared.parts.Part.{Part}
-use Rattle.deb_index.specs.Packages.{IndexView}
 use Rattle.deb_index.specs.Built.{draft_view, HasRoomFor, IsForeseen, part_stanzas}
 use Rattle.deb_index.specs.Reading.{byte_limit, continued, read_behind, readings}
 use Rattle.deb_index.proofs.PartedLemmas.{short-parts}
 use Rattle.deb_index.proofs.RoomLemmas.{text-room}
 use Rattle.deb_index.proofs.TakenLemmas.{Taken, part-room, parts-end, parts-fault, parts-more, rest-room, taken}
-use Rattle.deb_index.proofs.duplicates.Draft.add_text.Goals as goal
+use Rattle.deb_index.proofs.duplicates.Draft.add_parts.Goals as goal
 
 pub loop-part-init : goal.loop-part-init
 loop-part-init c =
     let v = draft_view c.args.self.now in
     let gives = c.into_iter-part-iterator.ensures.into_iter_gives in
     let items = into_iter_items c.into_iter-part-iterator.result in
-    let whole : flat_map part_stanzas items ≡ stanzas_of c.args.text.text.now = ap (flat_map part_stanzas) gives.0 ∙ c.requires.parts.stanzas in
+    let text = c.requires.parts.0 in
+    let are = c.requires.parts.1 in
+    let short = c.requires.parts.2 in
+    let whole : flat_map part_stanzas items ≡ stanzas_of text = ap (flat_map part_stanzas) gives.0 ∙ are.stanzas in
     record {
       built = c.requires.built;
       so_far = refl;
       same = refl;
       begun = c.requires.begun;
       few = c.requires.few;
-      room = subst (HasRoomFor v) (sym whole) (text-room v c.args.text.text.now c.requires.short c.requires.room);
-      short = subst (λ (ps : List Part). AllByRecursion (λ part. length part.text.now ≤ byte_limit) ps) (sym gives.0) (short-parts (length c.args.text.text.now) byte_limit c.args.text.parts.items c.requires.short c.requires.parts.short);
-      foreseen = subst (λ (ps : List Part). AllByRecursion (IsForeseen v.arch) ps) (sym gives.0) c.requires.parts.foreseen;
-      len = omega (arith, gives.1, c.args.text.parts.ok, ap (λ (ps : List Part). length ps) gives.0);
+      room = subst (HasRoomFor v) (sym whole) (text-room v text short c.requires.room);
+      short = subst (λ (ps : List Part). AllByRecursion (λ part. length part.text.now ≤ byte_limit) ps) (sym gives.0) (short-parts (length text) byte_limit c.args.parts.items short are.short);
+      foreseen = subst (λ (ps : List Part). AllByRecursion (IsForeseen v.arch) ps) (sym gives.0) are.foreseen;
+      len = omega (arith, gives.1, c.args.parts.ok, ap (λ (ps : List Part). length ps) gives.0);
     }
-
--- what the loop has to come to
-whole-is : (v : IndexView) (before : ℕ) (items parts : List Part) (text : List ℕ) → items ≡ parts → flat_map part_stanzas parts ≡ stanzas_of text
-    → read_behind v before (stanzas_of text) ≡ read_behind v before (flat_map part_stanzas items)
-whole-is v before items parts text same whole = ap (read_behind v before) (sym (ap (flat_map part_stanzas) same ∙ whole))
 
 pub returns-in_err-add_part-clause-refused : goal.returns-in_err-add_part-clause-refused
 returns-in_err-add_part-clause-refused c =
@@ -44,7 +41,7 @@ returns-in_err-add_part-clause-refused c =
     let n = c.loop-part.self.catalog.stanzas - c.args.before in
     let e = c.in_err-add_part.field-0.0 in
     let p = err_from_is_err_and c.from_residual.result c.from_residual.ensures.1 in
-    let whole = whole-is v c.args.before (into_iter_items c.into_iter-part-iterator.result) c.args.text.parts.items c.args.text.text.now c.into_iter-part-iterator.ensures.into_iter_gives.0 c.requires.parts.stanzas in
+    let whole = ap (λ (ps : List Part). read_behind v c.args.before (flat_map part_stanzas ps)) (sym c.into_iter-part-iterator.ensures.into_iter_gives.0) in
     rw (p.1, p.2)
     (λ other. whole ∙ parts-fault v.arch c.args.before n _ (draft_view c.loop-part.self) (into_iter_items c.loop-part.part-iterator) (into_iter_items c.next.new.self) part c.in-Some.ensures.steps.0 inv.so_far e
     (subst (λ (a : List ℕ). continued (draft_view c.loop-part.self) (readings a c.args.before n (part_stanzas part)) ≡ Err e) inv.same (c.in_err-add_part.ensures.refused other)))
@@ -86,5 +83,5 @@ returns-clause-accepted c =
     let inv = c.loop-part.invariant in
     let items = into_iter_items c.loop-part.part-iterator in
     let none = nil_from_length items (sym inv.len ∙ c.in-None.ensures.steps.0) in
-    let whole = whole-is v c.args.before (into_iter_items c.into_iter-part-iterator.result) c.args.text.parts.items c.args.text.text.now c.into_iter-part-iterator.ensures.into_iter_gives.0 c.requires.parts.stanzas in
+    let whole = ap (λ (ps : List Part). read_behind v c.args.before (flat_map part_stanzas ps)) (sym c.into_iter-part-iterator.ensures.into_iter_gives.0) in
     whole ∙ parts-end v.arch c.args.before (c.loop-part.self.catalog.stanzas - c.args.before) _ (draft_view c.loop-part.self) items none inv.so_far
