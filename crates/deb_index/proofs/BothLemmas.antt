@@ -7,7 +7,7 @@ use Rattle.deb_index.specs.declared.error.BothError.TheVariants.{Fore, Back}
 use Rattle.deb_index.specs.declared.error.IndexError.{IndexError}
 use Rattle.deb_index.specs.Packages.{IndexView, PackageView}
 use Rattle.deb_index.specs.Reading.{◌>>=◌, collected, continued, in_back, in_fore, index_of_both, readings, with_foreground, with_reading}
-use Rattle.deb_index.proofs.CollectLemmas.{collected-on, collected-stanzas, text-read, text-unread}
+use Rattle.deb_index.proofs.CollectLemmas.{collected-on, collected-stanzas, failed-from, taken-from, text-read, text-unread}
 
 -- ---- stanzas behind the foreground leave it as it is
 
@@ -23,14 +23,6 @@ front-on n index [] = refl
 front-on n index (read ∷ rest) = ap (λ (i : IndexView). fold with_reading i rest) (front-more n index read) ∙ front-on n (with_reading index read) rest
 
 -- ---- the index of both
-
-taken-from : (mid index : IndexView) (read : Result (List (Option PackageView)) IndexError) → continued mid read ≡ Ok index → (rest : List (Option PackageView)) × (read ≡ Ok rest) × (fold with_reading mid rest ≡ index)
-taken-from mid index (Ok rest) e = (rest, refl, cc)
-taken-from mid index (Err f) e = absurd cc
-
-failed-from : (mid : IndexView) (read : Result (List (Option PackageView)) IndexError) (f : IndexError) → continued mid read ≡ Err f → read ≡ Err f
-failed-from mid (Ok rest) f e = absurd cc
-failed-from mid (Err g) f e = cc
 
 module _ (text background arch : List ℕ) (with_essential : Bool) where
   abbrev pub own : List (Option PackageView) → IndexView

@@ -28,6 +28,16 @@ kept-le [] = omega arith
 kept-le (None ∷ read) = omega (arith, kept-le read)
 kept-le (Some p ∷ read) = omega (arith, kept-le read)
 
+-- ---- what an index was continued with
+
+pub taken-from : (mid index : IndexView) (read : Result (List (Option PackageView)) IndexError) → continued mid read ≡ Ok index → (rest : List (Option PackageView)) × (read ≡ Ok rest) × (fold with_reading mid rest ≡ index)
+taken-from mid index (Ok rest) e = (rest, refl, cc)
+taken-from mid index (Err f) e = absurd cc
+
+pub failed-from : (mid : IndexView) (read : Result (List (Option PackageView)) IndexError) (f : IndexError) → continued mid read ≡ Err f → read ≡ Err f
+failed-from mid (Ok rest) f e = absurd cc
+failed-from mid (Err g) f e = cc
+
 -- ---- one more reading
 
 module _ (arch : List ℕ) (with_essential : Bool) where
@@ -54,14 +64,7 @@ module _ (arch : List ℕ) (with_essential : Bool) where
 
   pub taken-of : (read : Result (List (Option PackageView)) IndexError) (index : IndexView) → continued (collected arch with_essential []) read ≡ Ok index
       → (rest : List (Option PackageView)) × (read ≡ Ok rest) × (index ≡ collected arch with_essential rest)
-  taken-of (Ok rest) index e =
-      let is : fold with_reading (collected arch with_essential []) rest ≡ index = cc in
-      (rest, refl, sym is ∙ collected-on [] rest)
-  taken-of (Err f) index e = absurd cc
-
-  pub failed-of : (read : Result (List (Option PackageView)) IndexError) (f : IndexError) → continued (collected arch with_essential []) read ≡ Err f → read ≡ Err f
-  failed-of (Ok rest) f e = absurd cc
-  failed-of (Err g) f e = cc
+  taken-of read index e = let all = taken-from (collected arch with_essential []) index read e in (all.0, all.1, sym all.2 ∙ collected-on [] all.0)
 
   from-none : (text : List ℕ) (old : IndexView) → old ≡ collected arch with_essential []
       → continued old (readings arch old.stanzas 0 (stanzas_of text)) ≡ continued (collected arch with_essential []) (readings arch 0 0 (stanzas_of text))
@@ -75,7 +78,7 @@ module _ (arch : List ℕ) (with_essential : Bool) where
   text-read text old index is e = taken-of (readings arch 0 0 (stanzas_of text)) index (sym (from-none text old is) ∙ e)
 
   pub text-unread : (text : List ℕ) (old : IndexView) (f : IndexError) → old ≡ collected arch with_essential [] → continued old (readings arch old.stanzas 0 (stanzas_of text)) ≡ Err f → readings arch 0 0 (stanzas_of text) ≡ Err f
-  text-unread text old f is e = failed-of (readings arch 0 0 (stanzas_of text)) f (sym (from-none text old is) ∙ e)
+  text-unread text old f is e = failed-from (collected arch with_essential []) (readings arch 0 0 (stanzas_of text)) f (sym (from-none text old is) ∙ e)
 
   pub own-arch : (old : IndexView) → old ≡ collected arch with_essential [] → old.arch ≡ arch
   unfolding collected

@@ -12,7 +12,7 @@ use Rattle.deb_index.proofs.FirstLemmas.{same-name}
 abbrev pub text_length : List Entry → List ℕ → ℕ
 text_length fields name = length (unwrap_or (field_value fields name) [])
 
-abbrev shown : Option Entry → Option (List ℕ)
+abbrev pub shown : Option Entry → Option (List ℕ)
 shown found = option_and_then (λ field. cond (is_empty field.value) None (Some field.value)) found
 
 taken : (e : Bool) (value : List ℕ) → length (unwrap_or (cond e None (Some value)) []) ≤ length value

@@ -17,7 +17,7 @@ use Rattle.deb_index.specs.declared.error.RelField.{RelField}
 use Rattle.deb_index.specs.declared.error.RelField.TheVariants.{PreDepends, Depends, Conflicts, Breaks, Provides}
 use Rattle.deb_index.specs.Packages.{PackageView}
 use Rattle.deb_index.specs.Reading.{◌>>=◌, HeadView, from_control, head_of, in_field, is_allowed, is_for, is_marked, is_provided, mandatory, package_of, provides_in, reading_of, readings, relation_text, stanza_limit, stanza_reading}
-use Rattle.deb_index.proofs.SizeLemmas.{done}
+use Rattle.deb_index.proofs.SizeLemmas.{done, read-well}
 
 -- a step that gives the same with any number, where it gives something
 abbrev IsFree : {A E : Type 0} → (ℕ → Result A E) → Type 0
@@ -37,12 +37,8 @@ test-free : {A E : Type 0} (b : Bool) (x : A) (fault : ℕ → E) → IsFree (λ
 test-free true x fault n m y e = e
 test-free false x fault n m y e = absurd cc
 
-from-ok : {A : Type 0} (read : Result A ControlError) (x : A) → from_control read ≡ Ok x → read ≡ Ok x
-from-ok (Ok y) x e = cc
-from-ok (Err d) x e = absurd cc
-
 from-free : {A : Type 0} (step : ℕ → Result A ControlError) → IsFree step → IsFree (λ n. from_control (step n))
-from-free step free n m x e = ap from_control (free n m x (from-ok (step n) x e))
+from-free step free n m x e = ap from_control (free n m x (read-well (step n) x e))
 
 -- ---- a package
 

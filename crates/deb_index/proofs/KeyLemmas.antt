@@ -14,16 +14,14 @@ use Rattle.deb_index.specs.Packages.{PackageView, is_named, package_view, places
 use Rattle.deb_index.specs.Reading.{same_package}
 use Rattle.deb_index.specs.Built.{HasKeysOf, IsKnown, key_view, package_key, same_key}
 use Rattle.deb_index.proofs.FirstLemmas.{names-turned, same-name}
-
-or-false : (b : Bool) → (b || false) ≡ b
-or-false b = grind arith
+use Rattle.deb_index.proofs.FoundLemmas.{or-none}
 
 pub or-turned : (a b : Bool) → (a || b) ≡ (b || a)
 or-turned a b = grind arith
 
 module _ {A : Type 0} (test : A → Bool) where
   pub any-push : (xs : List A) (x : A) → list_any test (xs ++ x ∷ []) ≡ (list_any test xs || test x)
-  any-push xs x = list_any-append test xs (x ∷ []) ∙ ap (λ r. list_any test xs || r) (or-false (test x))
+  any-push xs x = list_any-append test xs (x ∷ []) ∙ ap (λ r. list_any test xs || r) (or-none (test x))
 
   find-none : (xs : List A) → list_any test xs ≡ false → find test xs ≡ None
   find-none [] h = refl

@@ -11,7 +11,7 @@ use Rattle.deb_index.specs.Packages.{IndexView, first_of_each}
 use Rattle.deb_index.specs.Built.{FrontView, IsFrontOf, IsWithin}
 use Rattle.deb_index.specs.Reading.{◌>>=◌, byte_limit, collected, continued, index_of, index_of_both, read_behind, readings, with_foreground}
 use Rattle.deb_index.proofs.BothLemmas.{both-back, both-ok}
-use Rattle.deb_index.proofs.CollectLemmas.{collected-on, collected-stanzas, failed-of, taken-of}
+use Rattle.deb_index.proofs.CollectLemmas.{collected-on, collected-stanzas, failed-from, taken-of}
 use Rattle.deb_index.proofs.TakenLemmas.{Taken, continued-on, length-read, stopped}
 
 -- ---- what stands behind a front
@@ -71,7 +71,7 @@ module _ (arch : List ℕ) (with_essential : Bool) (text : List ℕ) (front : Fr
   front-fault piece more e closed ends fault =
       let stops = stopped arch 0 0 fresh (stanzas_of (text ++ piece)) (stanzas_of more) e (with-piece piece closed ∙ fault) in
       let whole = ap (λ stanzas. continued fresh (readings arch 0 0 stanzas)) (goes-on text piece more ends) ∙ stops in
-      ap (λ r. r >>= λ all. Ok (with_foreground (collected arch with_essential all))) (failed-of arch with_essential (readings arch 0 0 (stanzas_of (text ++ piece ++ more))) e whole)
+      ap (λ r. r >>= λ all. Ok (with_foreground (collected arch with_essential all))) (failed-from fresh (readings arch 0 0 (stanzas_of (text ++ piece ++ more))) e whole)
 
   -- ---- at the end of the text
 

@@ -1,7 +1,6 @@
 -- How much a package asks for and provides, against the bytes of its stanza.
 use Rattle.std.proofs.Common.{◌≡◌, ◌≤◌, ◌+◌, ◌<◌, ℕ, Bool, true, false, cond, ltb, List, [], ◌∷◌, ◌++◌, length, Option, Some, None, unwrap_or, Result, Ok, Err, refl, sym, subst, ap, ◌∙◌, arith, length-append, ltb-false}
 use Rattle.std.specs.List.{All, find, list_all, sum_by}
-use Rattle.std.specs.Option.{option_and_then}
 use Rattle.std.proofs.lemmas.List.{map-id}
 use Rattle.std.proofs.lemmas.List.Elements.{All-tail}
 use Rattle.std.proofs.lemmas.List.Sums.{get_or-le-sum_by}
@@ -10,7 +9,7 @@ use Rattle.deb_control.specs.Lines.{is_empty}
 use Rattle.deb_control.specs.Fields.{Entry, field_value, same_name}
 use Rattle.deb_control.specs.Stanzas.{size_of, read_stanza}
 use Rattle.deb_control.proofs.SizeLemmas.{values-fit}
-use Rattle.deb_index.proofs.FieldSums.{four-fit}
+use Rattle.deb_index.proofs.FieldSums.{four-fit, shown}
 use Rattle.deb_relation.specs.declared.atom.RelationError.{RelationError}
 use Rattle.deb_relation.specs.Relationship.{AtomText, atoms_of, group_in, groups_of, single_of}
 use Rattle.deb_relation.proofs.Counts.{few-read}
@@ -42,7 +41,7 @@ well : {A : Type 0} (n : ℕ) (field : RelField) (read : Result A RelationError)
 well n field (Ok y) x e = cc
 well n field (Err d) x e = absurd cc
 
-read-well : {A : Type 0} (read : Result A ControlError) (x : A) → from_control read ≡ Ok x → read ≡ Ok x
+pub read-well : {A : Type 0} (read : Result A ControlError) (x : A) → from_control read ≡ Ok x → read ≡ Ok x
 read-well (Ok y) x e = cc
 read-well (Err d) x e = absurd cc
 
@@ -50,9 +49,6 @@ read-well (Err d) x e = absurd cc
 
 abbrev AreShort : ℕ → List Entry → Type 0
 AreShort k fields = All (λ entry. length entry.value ≤ k) fields
-
-abbrev shown : Option Entry → Option (List ℕ)
-shown found = option_and_then (λ field. cond (is_empty field.value) None (Some field.value)) found
 
 filled : (b : Bool) (k : ℕ) (own value : List ℕ) → length own ≤ k → cond b None (Some own) ≡ Some value → length value ≤ k
 filled true k own value here e = absurd cc

@@ -3,15 +3,14 @@ ghost use Rattle.std.specs.Prelude.{◌≡◌, ◌<◌, ◌≤◌, ◌&&◌, ◌
 ghost use Rattle.std.specs.List.{list_any};
 ghost use Rattle.std.specs.List.Sorted.{IsStrictlyIncreasing};
 ghost use Rattle.deb_relation.specs.Relationship.{atom_view};
-ghost use Rattle.deb_index.specs.Packages.{is_in, package_at, package_view, places_of};
-ghost use Rattle.deb_index.specs.Meets.{provided_at};
+ghost use Rattle.deb_index.specs.Packages.{is_in, package_at, package_view};
 ghost use Rattle.deb_index.specs.Rows.{Adds, IsFound, meets_as_at, provides_as_at, satisfiers_as};
 ghost use Rattle.deb_index.specs.Rows as spec;
 ghost use Rattle.deb_index.specs.Tables.{asked_count, asked_limit};
 
 use crate::catalog::Catalog;
 use crate::meets::{Role, provided_meets};
-use crate::names::{Candidates, Names};
+use crate::names::Names;
 use crate::package::Package;
 use deb_relation::Atom;
 use std::alloc::AllocError;
@@ -58,14 +57,6 @@ impl<'a> Lookup<'a> {
         ensures few_asked { asked_count (package_view result.now) ≤ asked_limit }
     {
         &self.packages[place as usize]
-    }
-
-    // Where a name is found.
-    fn candidates(&self, name: &[u8]) -> Candidates<'a>
-        ensures named { result.named.now ≡ places_of self.now name.now }
-        ensures provided { result.provided.now ≡ provided_at self.now name.now }
-    {
-        self.names.candidates(name)
     }
 
     // Whether there is a package at a place, and it meets an atom in its role.
@@ -128,7 +119,7 @@ impl<'a> Lookup<'a> {
     ) -> Result<bool, AllocError>
         ensures { IfOk result (Adds most (λ q. meets_as_at role self.now q (atom_view atom.now)) found.old.items found.new.items) }
     {
-        let candidates = self.candidates(atom.name.as_slice());
+        let candidates = self.names.candidates(atom.name.as_slice());
         if !self.add_named(role, atom, candidates.named, most, found)? {
             return Ok(false);
         }
