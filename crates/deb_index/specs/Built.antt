@@ -81,10 +81,7 @@ pub record IsNamed (c : Catalog) (essential : List ℕ) : Type 0 where
 
 -- an index that is whole: the same, and the rows
 pub record IsWhole (c : Catalog) (essential : List ℕ) (links : Links) : Type 0 where
-  pub counts : IsCounted (catalog_view c)
-  pub numbered : AreNumbers (catalog_view c).packages c.numbers.items
-  pub named : IsNaming (catalog_view c).packages (provided_places (catalog_view c).arch (catalog_view c).packages) c.names
-  pub essentials : essential ≡ essential_names (catalog_view c)
+  pub kept : IsNamed c essential
   pub linked : IsLinked (catalog_view c) (catalog_view c).packages links
 
 -- an index of which nothing but the architecture and the packages is asked

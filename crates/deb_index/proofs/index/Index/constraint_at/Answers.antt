@@ -9,7 +9,7 @@ use Rattle.deb_index.proofs.index.Index.constraint_at.Goals as goal
 pub returns-in-Some : goal.returns-in-Some
 returns-in-Some c =
     let v = c.args.self.now in
-    let essential = c.deref.ensures.value ∙ c.self.invariant.essentials ∙ ap essential_names c.self.view_is in
+    let essential = c.deref.ensures.value ∙ c.self.invariant.kept.essentials ∙ ap essential_names c.self.view_is in
     let found = c.in-Some.ensures.lookup in
     let at = slice_get_read c.deref.result.now (length c.deref.result.now) c.args.position c.in-Some.name.now refl (ltb-true c.args.position (length c.deref.result.now) (sym found.0)) found.1 in
     essential_position v c.args.position c.in-Some.name.now (ap (λ ns. slice_get ns c.args.position) (sym essential) ∙ at)
