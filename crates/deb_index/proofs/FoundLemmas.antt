@@ -13,7 +13,7 @@ use Rattle.std.proofs.lemmas.Map.Views.{any-filter_same}
 use Rattle.deb_relation.specs.declared.atom.Atom.{Atom}
 use Rattle.deb_relation.specs.Relationship.{atom_view, AtomText}
 use Rattle.deb_index.specs.declared.meets.Role.{Role}
-use Rattle.deb_index.specs.Packages.{IndexView, PackageView, is_in, places_where}
+use Rattle.deb_index.specs.Packages.{IndexView, is_in, places_where}
 use Rattle.deb_index.specs.Rows.{Adds, IsFound, meets_as, meets_as_at}
 use Rattle.deb_index.proofs.HoldsLemmas.{group-at}
 use Rattle.deb_index.proofs.MemberLemmas.{member-places_where, rising-places_where}

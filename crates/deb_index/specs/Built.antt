@@ -1,5 +1,5 @@
 -- An index while it is read, piece by piece or in parts, and once it is whole: what is kept beside its packages.
-use Rattle.std.specs.Prelude.{◌≡◌, ◌≤◌, ◌+◌, ℕ, Bool, false, ◌&&◌, ◌||◌, List, [], map, find, length, sum_by, slice_get, ◌≢◌, ◌⊎◌, ◌*◌, ◌++◌, Option, Ok, Err, ◌<◌, ◌∷◌, IfSome}
+use Rattle.std.specs.Prelude.{◌≡◌, ◌≤◌, ◌+◌, ℕ, Bool, false, ◌&&◌, ◌||◌, List, [], map, find, length, sum_by, ◌≢◌, ◌⊎◌, ◌*◌, ◌++◌, Option, Ok, Err, ◌<◌, ◌∷◌, IfSome}
 use Rattle.std.specs.Option.{option_map_or}
 use Rattle.std.specs.List.{list_any, AllByRecursion, flat_map}
 use Rattle.std.specs.Str.{bytes_eq}

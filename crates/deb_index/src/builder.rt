@@ -22,12 +22,7 @@ use std::marker::Model;
 
 impl Draft {
     // Takes in the parts of a text, or of a piece of it; so many stanzas stood in an earlier text.
-    fn add_parts(
-        &mut self,
-        alloc: Global,
-        before: u32,
-        parts: Vec<Part>,
-    ) -> Result<(), IndexError>
+    fn add_parts(&mut self, alloc: Global, before: u32, parts: Vec<Part>) -> Result<(), IndexError>
         requires built { IsBuilt self.old }
         requires parts { (text : List ℕ) × ArePartsOf (draft_view self.old).arch text parts.items × (length text ≤ byte_limit) }
         requires begun { before ≤ self.old.catalog.stanzas }
@@ -35,7 +30,8 @@ impl Draft {
         requires room { sum_by asked_count (draft_view self.old).packages ≤ byte_limit + 1 + 4 * self.old.catalog.stanzas }
         ensures built { OnOk result (IsBuilt self.new) }
         ensures accepted { OnOk result (read_behind (draft_view self.old) before (flat_map part_stanzas parts.entry.items) ≡ Ok (draft_view self.new)) }
-        ensures refused { IfErr result (λ e. e ≢ IndexError.Memory → read_behind (draft_view self.old) before (flat_map part_stanzas parts.entry.items) ≡ Err e) }
+        ensures refused { IfErr result (λ e. e ≢ IndexError.Memory
+            → read_behind (draft_view self.old) before (flat_map part_stanzas parts.entry.items) ≡ Err e) }
     {
         for part in parts {
             self.add_part(alloc, before, part)?;

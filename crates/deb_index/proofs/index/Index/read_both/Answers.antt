@@ -1,4 +1,4 @@
-use Rattle.std.proofs.Common.{◌≡◌, ◌≢◌, ◌∙◌, ◌≤◌, ◌+◌, ◌*◌, Ok, Err, ap, subst, sym, ℕ, List, [], length, sum_by, arith}
+use Rattle.std.proofs.Common.{◌≡◌, ◌≢◌, ◌∙◌, ◌≤◌, ◌+◌, ◌*◌, Ok, Err, ap, subst, sym, ℕ, List, [], sum_by, arith}
 use Rattle.deb_control.specs.Stanzas.{stanzas_of}
 use Rattle.deb_index.specs.declared.error.IndexError.TheVariants.{Memory}
 use Rattle.deb_index.specs.Packages.{IndexView}

@@ -1,4 +1,4 @@
-use Rattle.std.proofs.Common.{◌≡◌, ◌<◌, ◌≤◌, ◌+◌, ◌∙◌, ◌&&◌, ◌||◌, Bool, List, ℕ, ap, eqb, get_or, length, refl, sym, arith}
+use Rattle.std.proofs.Common.{◌<◌, ◌≤◌, ◌+◌, ◌∙◌, ◌&&◌, ◌||◌, Bool, List, ℕ, ap, length, refl, sym, arith}
 use Rattle.std.proofs.lemmas.List.{take_all}
 use Rattle.deb_relation.specs.Relationship.{atom_view}
 use Rattle.deb_index.specs.Packages.{is_in}

@@ -1,4 +1,4 @@
-use Rattle.std.proofs.Common.{◌≡◌, ◌<◌, ◌≤◌, ◌+◌, ◌||◌, ◌∙◌, Bool, ap, length, map, sym, arith}
+use Rattle.std.proofs.Common.{◌<◌, ◌≤◌, ◌+◌, ◌||◌, ◌∙◌, Bool, ap, length, map, sym, arith}
 use Rattle.deb_relation.specs.Relationship.{AtomText, atom_view}
 use Rattle.deb_index.specs.Packages.{PackageView, is_in}
 use Rattle.deb_index.specs.Rows.{meets_as, meets_as_at}

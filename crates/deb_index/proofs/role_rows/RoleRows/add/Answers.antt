@@ -1,4 +1,4 @@
-use Rattle.std.proofs.Common.{◌≡◌, ◌++◌, ◌∷◌, ◌∙◌, [], ap, length, map, List, sym, arith}
+use Rattle.std.proofs.Common.{◌++◌, ◌∷◌, ◌∙◌, [], ap, map, List, sym, arith}
 use Rattle.deb_relation.specs.declared.atom.Atom.{Atom}
 use Rattle.deb_relation.specs.Relationship.{atom_view}
 use Rattle.deb_index.specs.Rows.{MadeRows, row_as}
