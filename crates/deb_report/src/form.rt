@@ -3,7 +3,8 @@
 ghost use Rattle.std.specs.Prelude.{◌≡◌, ◌++◌, All, OnOk, map};
 ghost use Rattle.run_settings.specs.declared.config.Format.TheVariants.{Text};
 ghost use Rattle.deb_report.specs.declared.form.Lead.TheVariants.{Within};
-ghost use Rattle.deb_report.specs.Forms.{each_in, elements_in, end_of, lead_of, list_in, number_in, some_in, string_in, title_in, item_front, item_in, name_in, one_of, part_view};
+ghost use Rattle.deb_report.specs.Forms.{each_in, elements_in, end_of, lead_of, list_in, number_in, some_in};
+ghost use Rattle.deb_report.specs.Forms.{string_in, title_in, item_front, item_in, name_in, one_of, part_view};
 
 use crate::json_text::push_quoted;
 use crate::parts::{InJson, InLine, Part};
