@@ -9,9 +9,9 @@ ghost use Rattle.deb_groundwork.specs.BaseSets.{HasRoom, IsBase};
 ghost use Rattle.deb_groundwork.specs.Parts.{positions_in, MeetsAskedOf};
 
 use crate::base_set::{BaseSet, OnBase};
-use crate::healthy_set::{meets_essentials, meets_place};
 use crate::choice::Ground;
 use crate::growth::Witness;
+use crate::healthy_set::{meets_essentials, meets_place};
 use crate::limits::WITNESS_TRIES;
 use crate::part::Part;
 use number_sets::SparseSet;
