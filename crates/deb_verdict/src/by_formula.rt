@@ -189,7 +189,8 @@ fn list_needed(
         &workspace.set,
         group.min(u32::MAX as usize) as u32,
     )?;
-    take_marked(&described.positions, marks, &mut workspace.needed)
+    take_marked(&described.positions, marks, &mut workspace.needed)?;
+    Ok(())
 }
 
 /// Whether a formula may tell of enough constraints at once that they are needed: where the last refutation used a good part of its own.
