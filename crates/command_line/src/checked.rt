@@ -13,24 +13,24 @@ use crate::values::{count_of, file_in, format_of, is_architecture, wrong_part};
 use clap::ArgMatches;
 use run_settings::{CHUNK_LIMIT, Format, Show};
 
-// The most workers that a run takes, as `work_draw` has it.
+/// The most workers that a run takes, as `work_draw` has it.
 const WORKER_LIMIT: u32 = 64;
 
-// What the values of the options say.
+/// What the values of the options say.
 #[derive(Drop)]
 pub(crate) struct Values<'a> {
     pub(crate) arch: &'a str,
     pub(crate) workers: u32,
     pub(crate) chunk: u32,
     pub(crate) show: Show,
-    // What is given of the names that are asked.
+    /// What is given of the names that are asked.
     pub(crate) asked: Option<&'a str>,
     pub(crate) bg: Option<&'a str>,
     pub(crate) since: Option<&'a str>,
     pub(crate) format: Format,
 }
 
-// What is allowed in the place of a value that is no architecture.
+/// What is allowed in the place of a value that is no architecture.
 fn allowed_architectures(value: &str) -> &'static str {
     match value {
         "x86_64" => "Debian calls it amd64",
@@ -77,7 +77,7 @@ fn chunk<'a>(matches: &ArgMatches<'a>) -> Result<u32, Refusal<'a>>
     })
 }
 
-// What is allowed in the place of a part of a list that is no name.
+/// What is allowed in the place of a part of a list that is no name.
 fn allowed_names(part: &str) -> &'static str {
     if part.starts_with(' ') {
         return "package names with commas between them, and no spaces";
@@ -85,7 +85,7 @@ fn allowed_names(part: &str) -> &'static str {
     "package names with commas between them, or @ and the name of a file"
 }
 
-// What is wrong with a list that is neither names with commas between them nor the name of a file behind an `@`.
+/// What is wrong with a list that is neither names with commas between them nor the name of a file behind an `@`.
 fn wrong_list(list: &str) -> Option<Refusal<'_>>
     ensures { is_none result ≡ is_good_list list.now }
 {
@@ -104,7 +104,7 @@ fn wrong_list(list: &str) -> Option<Refusal<'_>>
     })
 }
 
-// What is given of the names that are asked: a list of them, or the name of a file behind an `@`.
+/// What is given of the names that are asked: a list of them, or the name of a file behind an `@`.
 fn asked<'a>(matches: &ArgMatches<'a>) -> Result<Option<&'a str>, Refusal<'a>>
     ensures { IsReadIf (has_good_names (rows_in matches.now)) result
         (λ list. option_map (λ text. text.now) list ≡ first_of (codes "checkonly") (rows_in matches.now)) }
@@ -116,7 +116,7 @@ fn asked<'a>(matches: &ArgMatches<'a>) -> Result<Option<&'a str>, Refusal<'a>>
     }
 }
 
-// The name of the file that an option takes; `shown` is the option as a refusal names it.
+/// The name of the file that an option takes; `shown` is the option as a refusal names it.
 fn file<'a>(
     matches: &ArgMatches<'a>,
     option: &str,
@@ -135,7 +135,7 @@ fn file<'a>(
     }
 }
 
-// The name of the earlier index's file. With one, packages that can be installed are not asked for.
+/// The name of the earlier index's file. With one, packages that can be installed are not asked for.
 fn earlier<'a>(matches: &ArgMatches<'a>) -> Result<Option<&'a str>, Refusal<'a>>
     ensures { IsReadIf (has_good_since (rows_in matches.now)) result
         (λ file. option_map (λ name. name.now) file ≡ first_of (codes "since") (rows_in matches.now)) }
@@ -162,14 +162,14 @@ fn report_format<'a>(matches: &ArgMatches<'a>) -> Result<Format, Refusal<'a>>
     })
 }
 
-// Whether reasons are told beside the first ones, or as they are walked; both mean that blocks explain.
+/// Whether reasons are told beside the first ones, or as they are walked; both mean that blocks explain.
 pub(crate) fn tells_more_reasons(matches: &ArgMatches<'_>) -> bool
     ensures { result ≡ tells_more_reasons (rows_in matches.now) }
 {
     is_set(matches, "all-reasons") || is_set(matches, "why")
 }
 
-// Which packages are shown. What tells of those that cannot be installed alone is refused where the others are asked for alone.
+/// Which packages are shown. What tells of those that cannot be installed alone is refused where the others are asked for alone.
 fn show<'a>(matches: &ArgMatches<'a>) -> Result<Show, Refusal<'a>>
     ensures { IsReadIf (has_good_reasons (rows_in matches.now)) result (λ shown.
         shown ≡ show_of (is_set (codes "failures") (rows_in matches.now)) (is_set (codes "successes") (rows_in matches.now))) }
@@ -189,7 +189,7 @@ fn show<'a>(matches: &ArgMatches<'a>) -> Result<Show, Refusal<'a>>
     }
 }
 
-// The values of the options, each of its form.
+/// The values of the options, each of its form.
 pub(crate) fn checked_values<'a>(matches: &ArgMatches<'a>) -> Result<Values<'a>, Refusal<'a>>
     ensures { IsReadIf (has_good_values (rows_in matches.now)) result (AreValuesOf (rows_in matches.now)) }
 {

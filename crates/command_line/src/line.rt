@@ -21,7 +21,7 @@ use std::alloc::{AllocError, Global};
 /// What `--version` writes: the name of the program and its version.
 pub const VERSION_LINE: &str = "debcheck 1.0.0\n";
 
-// The text of a refusal, with what to write here where that is known.
+/// The text of a refusal, with what to write here where that is known.
 fn refused_text(
     alloc: Global,
     error: &clap::Error,
@@ -34,7 +34,7 @@ fn refused_text(
     }
 }
 
-// What a parse that gives no matches comes to.
+/// What a parse that gives no matches comes to.
 fn fault_from(alloc: Global, error: &clap::Error, words: &[String]) -> Result<LineFault, AllocError>
     ensures { IfOk result (IsFaultOf (kind_of error.now)) }
 {
@@ -52,7 +52,7 @@ fn fault_from(alloc: Global, error: &clap::Error, words: &[String]) -> Result<Li
     })
 }
 
-// The names that are asked, where a list of them is given.
+/// The names that are asked, where a list of them is given.
 fn only(alloc: Global, list: Option<&str>) -> Result<Option<Vec<Vec<u8>>>, AllocError>
     ensures { IfOk result (λ only. option_map (λ names. map (λ name. name.items) names.items) only ≡ listed_in (option_map (λ text. text.now) list.entry)) }
 {
@@ -65,14 +65,14 @@ fn only(alloc: Global, list: Option<&str>) -> Result<Option<Vec<Vec<u8>>>, Alloc
     }
 }
 
-// The name of the file that has the names that are asked, where one is given.
+/// The name of the file that has the names that are asked, where one is given.
 fn only_file(list: Option<&str>) -> Option<&str>
     ensures { option_map (λ file. file.now) result ≡ file_named (option_map (λ text. text.now) list.entry) }
 {
     list.and_then(file_in)
 }
 
-// The text of a value by itself.
+/// The text of a value by itself.
 fn owned(alloc: Global, text: Option<&str>) -> Result<Option<String>, AllocError>
     ensures { IfOk result (λ owned. option_map string_bytes owned ≡ option_map (λ text. text.now) text.entry) }
 {
@@ -82,7 +82,7 @@ fn owned(alloc: Global, text: Option<&str>) -> Result<Option<String>, AllocError
     }
 }
 
-// The configuration of these values and of the options that have none.
+/// The configuration of these values and of the options that have none.
 fn config_with(
     alloc: Global,
     matches: &ArgMatches<'_>,
@@ -111,7 +111,7 @@ fn config_with(
     })
 }
 
-// The configuration that the options and their values say.
+/// The configuration that the options and their values say.
 fn config_of(alloc: Global, matches: &ArgMatches<'_>) -> Result<Config, LineFault>
     ensures good { OnOk result (has_good_values (rows_in matches.now) ≡ true) }
     ensures request { IfOk result (λ config. request_of config ≡ asked_by (rows_in matches.now)) }
@@ -123,7 +123,7 @@ fn config_of(alloc: Global, matches: &ArgMatches<'_>) -> Result<Config, LineFaul
     }
 }
 
-// The configuration that the words ask for.
+/// The configuration that the words ask for.
 fn read_words(alloc: Global, words: &[String]) -> Result<Config, LineFault>
     ensures accepted { IfOk result (Accepts (map string_bytes words.now)) }
     ensures refused { IfErr result (RefusesLine (map string_bytes words.now)) }

@@ -7,23 +7,23 @@ ghost use Rattle.command_line.specs.Line.{app_with, is_set, line_app, option_rul
 use clap::{Arg, ArgAction, ArgMatches, Command};
 use std::alloc::{AllocError, Global};
 
-// An option.
+/// An option.
 pub(crate) struct LineOption {
     name: &'static str,
-    // Its name of one letter, if it has one.
+    /// Its name of one letter, if it has one.
     short: Option<char>,
     action: ArgAction,
-    // What help calls its value, if it takes one.
+    /// What help calls its value, if it takes one.
     value: &'static [&'static str],
-    // Whether it has to be said.
+    /// Whether it has to be said.
     required: bool,
-    // Its value where it isn't said, if it has one.
+    /// Its value where it isn't said, if it has one.
     usual: &'static [&'static str],
-    // What help says of it.
+    /// What help says of it.
     help: &'static str,
 }
 
-// What options without a value have in common.
+/// What options without a value have in common.
 const FLAG: LineOption = LineOption {
     name: "",
     short: None,
@@ -34,7 +34,7 @@ const FLAG: LineOption = LineOption {
     help: "",
 };
 
-// What options with a value have in common.
+/// What options with a value have in common.
 const VALUED: LineOption = LineOption {
     action: ArgAction::Set,
     ..FLAG
@@ -64,7 +64,7 @@ macro_rules! valued {
     };
 }
 
-// The options, as help lists them.
+/// The options, as help lists them.
 static OPTIONS: [LineOption; 18] = [
     LineOption {
         name: "arch",
@@ -104,14 +104,14 @@ static OPTIONS: [LineOption; 18] = [
     },
 ];
 
-// What stands behind the options.
+/// What stands behind the options.
 const AFTER_HELP: &str =
     "Example: xzcat Packages.xz | debcheck --arch amd64 --failures --why --strict
 Exit status: 0 all can be installed, 1 some cannot, 64 bad command line,
 65 bad index, 66 unknown name, 67 read error, 68 write error, 69 no memory
 Without arguments: --arch amd64 --explain. Manual: man debcheck";
 
-// An option as `clap` takes it.
+/// An option as `clap` takes it.
 fn argument<'a>(alloc: Global, option: &'static LineOption) -> Arg<'a>
     ensures rule { rule_of result ≡ option_rule option.now }
     ensures local { result.global ≡ false }
@@ -129,7 +129,7 @@ fn argument<'a>(alloc: Global, option: &'static LineOption) -> Arg<'a>
     }
 }
 
-// The program's command without options.
+/// The program's command without options.
 fn bare<'a>(alloc: Global) -> Command<'a>
     ensures { app_of result ≡ app_with [] }
 {
@@ -141,7 +141,7 @@ fn bare<'a>(alloc: Global) -> Command<'a>
         .disable_help_flag(true)
 }
 
-// The program's command.
+/// The program's command.
 pub(crate) fn command<'a>(alloc: Global) -> Result<Command<'a>, AllocError>
     ensures { IfOk result (λ command. app_of command ≡ line_app) }
 {
@@ -152,21 +152,21 @@ pub(crate) fn command<'a>(alloc: Global) -> Result<Command<'a>, AllocError>
     Ok(command)
 }
 
-// The value of an option, where it has one.
+/// The value of an option, where it has one.
 pub(crate) fn given<'a>(matches: &ArgMatches<'a>, name: &str) -> Option<&'a str>
     ensures { option_map (λ value. value.now) result ≡ first_of name.now (rows_in matches.now) }
 {
     matches.get_str(name)
 }
 
-// The value of an option that has one.
+/// The value of an option that has one.
 pub(crate) fn value_of<'a>(matches: &ArgMatches<'a>, name: &str) -> &'a str
     ensures { result.now ≡ value_of name.now (rows_in matches.now) }
 {
     given(matches, name).unwrap_or("")
 }
 
-// Whether an option without a value was given.
+/// Whether an option without a value was given.
 pub(crate) fn is_set(matches: &ArgMatches<'_>, name: &str) -> bool
     ensures { result ≡ is_set name.now (rows_in matches.now) }
 {

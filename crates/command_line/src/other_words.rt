@@ -1,6 +1,6 @@
 //! Words that other programs of this kind take, dose-debcheck and installcheck, and what stands for them here.
 
-// Where the text is read from that those take as a file.
+/// Where the text is read from that those take as a file.
 const FROM_INPUT: &str = "the index comes on standard input, write debcheck --arch A < Packages";
 
 const NO_SUCH: &str =
@@ -17,7 +17,7 @@ const TO_OUTPUT: &str = "the report goes to standard output, write > FILE";
 
 const NO_PROGRESS: &str = "leave it out, progress is shown where standard error is a terminal";
 
-// The words of those programs with blanks between them, each with what to write in its place, or that there is nothing.
+/// The words of those programs with blanks between them, each with what to write in its place, or that there is nothing.
 static OTHER_WORDS: [(&str, &str); 13] = [
     ("-a --deb-native-arch", "write --arch A"),
     ("-e", "write --explain"),
@@ -48,7 +48,7 @@ pub(crate) fn advice_on(word: &str) -> Option<&'static str> {
     }
 }
 
-// Whether a word stands behind one that ends with a comma.
+/// Whether a word stands behind one that ends with a comma.
 fn follows_a_comma(word: &str, words: &[String]) -> bool {
     let mut before = "";
     for next in words {

@@ -6,23 +6,23 @@ ghost use Rattle.command_line.specs.Line.{IsRefusal};
 use crate::fault::LineFault;
 use std::alloc::{AllocError, Global};
 
-// Why what an option says is refused.
+/// Why what an option says is refused.
 #[derive(Drop)]
 pub(crate) enum Refusal<'a> {
-    // Its value isn't of its form; what is allowed.
+    /// Its value isn't of its form; what is allowed.
     Value {
         option: &'static str,
         value: &'a str,
         allowed: &'static str,
     },
-    // It isn't taken beside `--successes`; behind that, where it is all the same.
+    /// It isn't taken beside `--successes`; behind that, where it is all the same.
     BesideSuccesses {
         option: &'static str,
         but: &'static str,
     },
 }
 
-// What is said of it.
+/// What is said of it.
 pub(crate) fn fault_of(alloc: Global, refusal: &Refusal<'_>) -> Result<LineFault, AllocError>
     ensures { IfOk result IsRefusal }
 {

@@ -12,14 +12,14 @@ use deb_relation::is_name;
 use run_settings::Format;
 use std::alloc::{AllocError, Global};
 
-// Whether all bytes of a text are letters, digits or `-`.
+/// Whether all bytes of a text are letters, digits or `-`.
 fn has_architecture_bytes(text: &[u8]) -> bool
     ensures { result ≡ list_all is_architecture_byte text.now }
 {
     text.iter().all(|b| b.is_ascii_alphanumeric() || *b == b'-')
 }
 
-// Whether a text is an architecture that can be checked.
+/// Whether a text is an architecture that can be checked.
 pub(crate) fn is_architecture(text: &str) -> bool
     ensures { result ≡ is_architecture text.now }
 {
@@ -35,7 +35,7 @@ fn has_digits(text: &[u8]) -> bool
     text.iter().all(|b| b.is_ascii_digit())
 }
 
-// The number that a text of decimal digits writes, from 1 to `most`.
+/// The number that a text of decimal digits writes, from 1 to `most`.
 pub(crate) fn count_of(text: &str, most: u32) -> Option<u32>
     ensures { MatchOption result (is_count most text.now ≡ false) (λ count. (is_count most text.now ≡ true) × (count ≡ digits_value 10 text.now)) }
 {
@@ -48,7 +48,7 @@ pub(crate) fn count_of(text: &str, most: u32) -> Option<u32>
     }
 }
 
-// The form of the report that a word names.
+/// The form of the report that a word names.
 pub(crate) fn format_of(text: &str) -> Option<Format>
     ensures { result ≡ format_of text.now }
 {
@@ -59,21 +59,21 @@ pub(crate) fn format_of(text: &str) -> Option<Format>
     }
 }
 
-// The name of a file that stands behind an `@`.
+/// The name of a file that stands behind an `@`.
 pub(crate) fn file_in(text: &str) -> Option<&str>
     ensures { option_map (λ file. file.now) result ≡ file_in text.now }
 {
     text.strip_prefix('@')
 }
 
-// The first part of a list that is no package name.
+/// The first part of a list that is no package name.
 pub(crate) fn wrong_part(text: &str) -> Option<&str>
     ensures { is_none result ≡ list_all is_name (names_in text.now) }
 {
     text.split(',').find(|part| !is_name(part.as_bytes()))
 }
 
-// The parts of a list as names.
+/// The parts of a list as names.
 pub(crate) fn names_of(alloc: Global, text: &str) -> Result<Vec<Vec<u8>>, AllocError>
     ensures { IfOk result (λ names. map (λ name. name.items) names.items ≡ names_in text.now) }
 {

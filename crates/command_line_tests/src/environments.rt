@@ -23,7 +23,7 @@ impl Alloc for Spoken<'_> {
     }
 }
 
-// Copies a text to the front of the buffer.
+/// Copies a text to the front of the buffer.
 fn fill(text: &[u8], buf: &mut [u8]) -> Result<usize, FillError>
     ensures { WritesAtMost result buf.new }
 {

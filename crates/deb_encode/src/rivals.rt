@@ -14,7 +14,7 @@ use deb_index::Index;
 use deb_relation::Atom;
 use std::alloc::AllocError;
 
-// How many packages an entry hits at most that gets a clause for each of them. Where it hits more, a list serves all who hit the same.
+/// How many packages an entry hits at most that gets a clause for each of them. Where it hits more, a list serves all who hit the same.
 const NARROW_LIMIT: usize = 64;
 
 /// Whether an entry hits many packages.

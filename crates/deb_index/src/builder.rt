@@ -21,7 +21,7 @@ use std::collections::HashSet;
 use std::marker::Model;
 
 impl Draft {
-    // Takes in the parts of a text, or of a piece of it; so many stanzas stood in an earlier text.
+    /// Takes in the parts of a text, or of a piece of it; so many stanzas stood in an earlier text.
     fn add_parts(&mut self, alloc: Global, before: u32, parts: Vec<Part>) -> Result<(), IndexError>
         requires built { IsBuilt self.old }
         requires parts { (text : List ℕ) × ArePartsOf (draft_view self.old).arch text parts.items × (length text ≤ byte_limit) }
@@ -39,8 +39,8 @@ impl Draft {
         Ok(())
     }
 
-    // Takes in a part of a text; so many stanzas stood in an earlier text. What was read beforehand is taken over, where there are not too
-    // many stanzas then; else the part is read here.
+    /// Takes in a part of a text; so many stanzas stood in an earlier text. What was read beforehand is taken over, where there are not too
+    /// many stanzas then; else the part is read here.
     fn add_part(&mut self, alloc: Global, before: u32, part: Part) -> Result<(), IndexError>
         requires built { IsBuilt self.old }
         requires begun { before ≤ self.old.catalog.stanzas }
@@ -63,7 +63,7 @@ impl Draft {
         self.add_stanzas(alloc, before, reader)
     }
 
-    // Takes in what stanzas read as.
+    /// Takes in what stanzas read as.
     fn add_readings(&mut self, alloc: Global, found: Vec<Reading>) -> Result<(), AllocError>
         requires built { IsBuilt self.old }
         requires room { HaveRoom (draft_view self.old) (map reading_view found.items) }
@@ -76,7 +76,7 @@ impl Draft {
         Ok(())
     }
 
-    // Reads the stanzas that a reader has before it, and takes each in; so many stood in an earlier text.
+    /// Reads the stanzas that a reader has before it, and takes each in; so many stood in an earlier text.
     fn add_stanzas(&mut self, alloc: Global, before: u32, reader: Reader) -> Result<(), IndexError>
         requires built { IsBuilt self.old }
         requires counts { self.old.catalog.stanzas ≡ before + reader.count }
@@ -197,7 +197,7 @@ impl Builder {
         Ok(Unlinked { catalog, essential })
     }
 
-    // The numbers of the essential names, rising.
+    /// The numbers of the essential names, rising.
     fn essential_names(&self, alloc: Global) -> Result<Vec<u32>, AllocError>
         ensures { IfOk result (λ v. v.items ≡ essential_names self.now) }
     {

@@ -11,7 +11,7 @@ pub(crate) struct Catalog {
     pub(crate) skipped: u32,
     pub(crate) duplicates: u32,
     pub(crate) foreground: u32,
-    // The number of each package's name.
+    /// The number of each package's name.
     pub(crate) numbers: Vec<u32>,
     pub(crate) names: Names,
     // Given back last: at a larger piece that came back behind its many small ones, the allocator would go through all of them.

@@ -87,7 +87,7 @@ impl Index {
         }
     }
 
-    // Where the constraints of the package at a place begin in the list of all, and behind the last place those of the names.
+    /// Where the constraints of the package at a place begin in the list of all, and behind the last place those of the names.
     fn first_position(&self, place: u32) -> u32
         requires { place ≤ length self.now.packages }
         ensures value { result ≡ first_position self.now place }
@@ -98,7 +98,7 @@ impl Index {
         self.essential.len() as u32 + start.group + start.entry
     }
 
-    // The place of the package whose constraint stands at a position.
+    /// The place of the package whose constraint stands at a position.
     fn asking_place(&self, position: u32) -> u32
         requires begun { first_position self.now 0 ≤ position }
         requires within { position < first_position self.now (length self.now.packages) }

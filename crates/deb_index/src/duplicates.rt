@@ -30,7 +30,7 @@ impl PackageKey {
     }
 }
 
-// Keeps the key of a package whose name is there already.
+/// Keeps the key of a package whose name is there already.
 fn keep_key(
     alloc: Global,
     is_later: bool,
@@ -50,7 +50,7 @@ fn keep_key(
 #[derive(Drop)]
 pub(crate) struct Draft {
     pub(crate) catalog: Catalog,
-    // The keys of the packages that are not the first of their name.
+    /// The keys of the packages that are not the first of their name.
     pub(crate) later: HashSet<PackageKey>,
 }
 
@@ -75,7 +75,7 @@ impl Draft {
         }
     }
 
-    // Takes in a package, or counts it as a duplicate.
+    /// Takes in a package, or counts it as a duplicate.
     fn keep(&mut self, alloc: Global, candidate: Package) -> Result<(), AllocError>
         requires built { IsBuilt self.old }
         requires few { self.old.catalog.stanzas < stanza_limit }
@@ -93,7 +93,7 @@ impl Draft {
         self.push(alloc, known, candidate)
     }
 
-    // Whether a package of a candidate's name and version is there. The number is that of the name.
+    /// Whether a package of a candidate's name and version is there. The number is that of the name.
     fn contains(
         &self,
         alloc: Global,
@@ -115,7 +115,7 @@ impl Draft {
         Ok(self.later.contains(&key))
     }
 
-    // Puts a package down at the next place. The number is that of its name.
+    /// Puts a package down at the next place. The number is that of its name.
     fn push(
         &mut self,
         alloc: Global,

@@ -20,7 +20,7 @@ use std::marker::Model;
 #[derive(Drop)]
 pub struct Index {
     pub(crate) links: Links,
-    // The numbers of the essential names.
+    /// The numbers of the essential names.
     pub(crate) essential: Vec<u32>,
     // Given back last, and in it the packages.
     pub(crate) catalog: Catalog,
@@ -92,7 +92,7 @@ impl Index {
         &self.catalog.packages[place as usize]
     }
 
-    // Where the rows of the package at a place begin, and behind the last place where all end.
+    /// Where the rows of the package at a place begin, and behind the last place where all end.
     pub(crate) fn start(&self, place: usize) -> Start
         requires { place ≤ length self.now.packages }
         ensures group { result.group ≡ groups_before self.now place }

@@ -16,7 +16,7 @@ pub(crate) struct Start {
     pub(crate) entry: u32,
 }
 
-// Adds where the rows of more packages begin, behind rows that end there.
+/// Adds where the rows of more packages begin, behind rows that end there.
 fn push_behind(starts: &mut Vec<Start>, end: Start, more: &[Start]) -> Result<(), AllocError>
     requires groups { All (λ s. end.group + s.group < 2 ^ 32) more.now }
     requires entries { All (λ s. end.entry + s.entry < 2 ^ 32) more.now }
@@ -34,7 +34,7 @@ fn push_behind(starts: &mut Vec<Start>, end: Start, more: &[Start]) -> Result<()
 /// The rows of the packages' groups and entries, by place.
 #[derive(Drop)]
 pub(crate) struct Links {
-    // One more than there are packages.
+    /// One more than there are packages.
     pub(crate) starts: Vec<Start>,
     pub(crate) groups: Rows,
     pub(crate) entries: Rows,

@@ -59,7 +59,7 @@ impl<'a> Lookup<'a> {
         &self.packages[place as usize]
     }
 
-    // Whether there is a package at a place, and it meets an atom in its role.
+    /// Whether there is a package at a place, and it meets an atom in its role.
     fn meets_as(&self, role: Role, place: u32, atom: &Atom) -> bool
         ensures { result ≡ meets_as_at role self.now place (atom_view atom.now) }
     {
@@ -72,7 +72,7 @@ impl<'a> Lookup<'a> {
         }
     }
 
-    // Whether there is such an entry, and its package meets an atom of its name by it, in the atom's role.
+    /// Whether there is such an entry, and its package meets an atom of its name by it, in the atom's role.
     fn provides_as(&self, role: Role, entry: (u32, u32), atom: &Atom) -> bool
         ensures { result ≡ provides_as_at role self.now entry (atom_view atom.now) }
     {
@@ -109,7 +109,7 @@ impl<'a> Lookup<'a> {
         Ok(())
     }
 
-    // Adds the places that meet an atom, in any order, and some twice. `false` where some are left out, since there are more than so many.
+    /// Adds the places that meet an atom, in any order, and some twice. `false` where some are left out, since there are more than so many.
     fn add_found(
         &self,
         role: Role,
@@ -126,7 +126,7 @@ impl<'a> Lookup<'a> {
         self.add_providers(role, atom, candidates.provided, most, found)
     }
 
-    // The same for those of some places where the package meets an atom.
+    /// The same for those of some places where the package meets an atom.
     fn add_named(
         &self,
         role: Role,
@@ -146,7 +146,7 @@ impl<'a> Lookup<'a> {
         Ok(true)
     }
 
-    // The same for those of some entries by which their packages meet an atom of their name. No other entry of a package is looked at.
+    /// The same for those of some entries by which their packages meet an atom of their name. No other entry of a package is looked at.
     fn add_providers(
         &self,
         role: Role,
@@ -167,7 +167,7 @@ impl<'a> Lookup<'a> {
     }
 }
 
-// Adds a place if it is wanted. `false` where there are more than so many now, also without those that came again.
+/// Adds a place if it is wanted. `false` where there are more than so many now, also without those that came again.
 fn add_if(
     is_wanted: bool,
     place: u32,
@@ -188,7 +188,7 @@ fn add_if(
     Ok(found.len() <= most)
 }
 
-// Whether a package may stand for an atom in its role, for an architecture, where it meets its name and bound.
+/// Whether a package may stand for an atom in its role, for an architecture, where it meets its name and bound.
 fn usable_as(role: Role, arch: &[u8], provider: &Package, atom: &Atom) -> bool
     ensures { result ≡ spec.usable_as role arch.now (package_view provider.now) (atom_view atom.now) }
 {

@@ -14,7 +14,7 @@ use std::hash::{FoldHasher, Hasher};
 pub(crate) struct Met<'t> {
     atom: &'t Atom,
     row: u32,
-    // That of the atom: most others are told apart by it, without a look at the atom, which lies anywhere.
+    /// That of the atom: most others are told apart by it, without a look at the atom, which lies anywhere.
     mark: u16,
 }
 
@@ -25,7 +25,7 @@ pub(crate) struct Memo<'t> {
     ghost some: { 0 < vec_len slots },
 }
 
-// Whether both are qualifiers of one text, or neither is there.
+/// Whether both are qualifiers of one text, or neither is there.
 fn is_same_qualifier(qualifier: &Option<Box<SmallText>>, other: &Option<Box<SmallText>>) -> bool
     ensures { IsTrue result → option_map (λ q. q.value) qualifier.now ≡ option_map (λ q. q.value) other.now }
 {
@@ -36,7 +36,7 @@ fn is_same_qualifier(qualifier: &Option<Box<SmallText>>, other: &Option<Box<Smal
     }
 }
 
-// Whether both are bounds of one operator and one text, or neither is there.
+/// Whether both are bounds of one operator and one text, or neither is there.
 fn is_same_bound(bound: &Option<Box<(Op, Version)>>, other: &Option<Box<(Op, Version)>>) -> bool
     ensures { IsTrue result → option_map (λ b. b.value) bound.now ≡ option_map (λ b. b.value) other.now }
 {
@@ -47,7 +47,7 @@ fn is_same_bound(bound: &Option<Box<(Op, Version)>>, other: &Option<Box<(Op, Ver
     }
 }
 
-// Whether two atoms are written alike.
+/// Whether two atoms are written alike.
 fn is_same_atom(atom: &Atom, other: &Atom) -> bool
     ensures { IsTrue result → atom_view atom.now ≡ atom_view other.now }
 {
@@ -66,7 +66,7 @@ pub(crate) fn digest_of(atom: &Atom) -> usize {
     hasher.finish() as usize
 }
 
-// What tells an atom from most others of its slot, which the low bits give.
+/// What tells an atom from most others of its slot, which the low bits give.
 fn mark_of(digest: usize) -> u16 {
     (digest >> 48) as u16
 }
@@ -89,7 +89,7 @@ impl<'t> Memo<'t> {
         Ok(Memo { slots })
     }
 
-    // There is a power of two of them.
+    /// There is a power of two of them.
     fn slot_of(&self, digest: usize) -> usize
         ensures { result < vec_len self.now.slots }
     {

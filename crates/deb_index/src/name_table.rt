@@ -11,11 +11,11 @@ use std::marker::Model;
 /// Names, each once, in the order of their coming: the number of a name is its place. Contracts see the list of them.
 #[derive(Drop)]
 pub(crate) struct NameTable {
-    // Most of them lie in the value, and so in this list.
+    /// Most of them lie in the value, and so in this list.
     texts: Vec<SmallText>,
-    // By a hash: the number of the first name that has it.
+    /// By a hash: the number of the first name that has it.
     firsts: HashMap<u64, usize>,
-    // The numbers of the names whose hash an earlier one has, of which there are hardly any.
+    /// The numbers of the names whose hash an earlier one has, of which there are hardly any.
     others: HashMap<Vec<u8>, usize>,
 }
 

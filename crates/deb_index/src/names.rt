@@ -31,9 +31,9 @@ pub(crate) struct Candidates<'a> {
 #[derive(Drop)]
 pub(crate) struct Names {
     pub(crate) texts: NameTable,
-    // By the number of the name.
+    /// By the number of the name.
     pub(crate) lists: Vec<Lists>,
-    // How many names packages have.
+    /// How many names packages have.
     pub(crate) front: usize,
     ghost listed: { length texts ≤ vec_len lists },
 }
@@ -102,7 +102,7 @@ impl Names {
         }
     }
 
-    // Puts a name down that is not there, last.
+    /// Puts a name down that is not there, last.
     fn insert(&mut self, alloc: Global, name: &[u8], lists: Lists) -> Result<(), AllocError>
         requires { number_in name.now (name_texts self.old) ≡ None }
         ensures texts { OnOk result (name_texts self.new ≡ name_texts self.old ++ name.now ∷ []) }
@@ -143,7 +143,7 @@ impl Names {
         }
     }
 
-    // Puts an entry down under the name that it provides.
+    /// Puts an entry down under the name that it provides.
     fn add_entry(&mut self, alloc: Global, name: &[u8], entry: (u32, u32)) -> Result<(), AllocError>
         ensures { OnOk result ((packages : List PackageView) (entries : List (List ℕ × (ℕ × ℕ))) → IsNaming packages entries self.old
             → IsNaming packages (entries ++ (name.now, entry) ∷ []) self.new) }
@@ -163,7 +163,7 @@ impl Names {
         }
     }
 
-    // Puts down the entries of the package at a place that count for an architecture.
+    /// Puts down the entries of the package at a place that count for an architecture.
     fn add_entries(
         &mut self,
         alloc: Global,

@@ -165,7 +165,7 @@ fn read_provides(alloc: Global, number: u64, stanza: &Stanza) -> Result<Vec<Atom
     }
 }
 
-// Whether a field has just this value. Where the name is known beforehand, so is its slot.
+/// Whether a field has just this value. Where the name is known beforehand, so is its slot.
 #[inline(always)]
 fn says(stanza: &Stanza, name: &str, value: &[u8]) -> bool
     ensures { result ≡ option_map_or (λ v. bytes_eq v value.now) (field_value stanza.now name.now) false }
@@ -224,7 +224,7 @@ fn read_fields(
     }
 }
 
-// What the fault of the `number`-th stanza is in an index, where so many stood in an earlier text; that there are too many goes first.
+/// What the fault of the `number`-th stanza is in an index, where so many stood in an earlier text; that there are too many goes first.
 fn stanza_fault(before: u32, number: u64, error: ControlError) -> IndexError
     requires { number < 2 ^ 33 }
     ensures { result ≡ spec.stanza_fault before number error }

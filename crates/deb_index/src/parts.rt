@@ -16,7 +16,7 @@ use std::thread::Threads;
 #[derive(Drop)]
 pub(crate) struct Part<'a> {
     pub(crate) text: &'a [u8],
-    // What its stanzas read as, where they were read beforehand and none has a fault.
+    /// What its stanzas read as, where they were read beforehand and none has a fault.
     pub(crate) found: Option<Vec<Reading>>,
 }
 
@@ -46,7 +46,7 @@ pub(crate) fn in_many<'a, R: Threads + Sync>(
     read_parts(rt, alloc, arch, text, workers, least)
 }
 
-// What the stanzas of a part read as, with numbers from 1.
+/// What the stanzas of a part read as, with numbers from 1.
 fn read_stanzas(alloc: Global, arch: &[u8], text: &[u8]) -> Result<Vec<Reading>, IndexError>
     ensures { IfOk result (λ v. readings arch.now 0 0 (stanzas_of text.now) ≡ Ok (map reading_view v.items)) }
 {
@@ -58,7 +58,7 @@ fn read_stanzas(alloc: Global, arch: &[u8], text: &[u8]) -> Result<Vec<Reading>,
     Ok(found)
 }
 
-// A text as one part, read beforehand. A fault is told when it is taken in, with the number that its stanza has in the whole text.
+/// A text as one part, read beforehand. A fault is told when it is taken in, with the number that its stanza has in the whole text.
 fn read_part<'a>(alloc: Global, arch: &[u8], text: &'a [u8]) -> Result<Part<'a>, AllocError>
     ensures text { IfOk result (λ part. part.text.now ≡ text.now) }
     ensures found { IfOk result (λ part. IsForeseen arch.now part) }
@@ -81,7 +81,7 @@ fn read_alone<'a>(alloc: Global, arch: &[u8], text: &'a [u8]) -> Result<Vec<Part
     Ok(parts)
 }
 
-// The first worker's part, and what is left for the others; nothing is left where the text is too short, or has no empty line there.
+/// The first worker's part, and what is left for the others; nothing is left where the text is too short, or has no empty line there.
 fn first_part(text: &[u8], workers: u32, least: usize) -> (&[u8], &[u8])
     ensures whole { text.now ≡ result.0.now ++ result.1.now }
     ensures stanzas { stanzas_of text.now ≡ stanzas_of result.0.now ++ stanzas_of result.1.now }

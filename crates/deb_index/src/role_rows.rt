@@ -24,7 +24,7 @@ pub(crate) struct RoleRows<'t> {
     role: Role,
     rows: Rows,
     memo: Memo<'t>,
-    // Each row is found in it, and put down from it.
+    /// Each row is found in it, and put down from it.
     found: Vec<u32>,
 }
 
@@ -91,7 +91,7 @@ impl<'t> RoleRows<'t> {
         Ok(())
     }
 
-    // Adds the row of what is asked for: the alternatives of a group, or an entry alone.
+    /// Adds the row of what is asked for: the alternatives of a group, or an entry alone.
     fn add(&mut self, asked: &'t [Atom]) -> Result<(), AllocError>
         requires few { length self.old.rows < asked_limit }
         ensures index { self.new.index ≡ self.old.index }
@@ -111,7 +111,7 @@ impl<'t> RoleRows<'t> {
         Ok(())
     }
 
-    // The same for what is not remembered.
+    /// The same for what is not remembered.
     fn find(&mut self, asked: &[Atom]) -> Result<(), AllocError>
         requires few { length self.old.rows < asked_limit }
         ensures index { self.new.index ≡ self.old.index }

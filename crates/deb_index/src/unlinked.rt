@@ -18,7 +18,7 @@ use std::thread::Threads;
 #[derive(Drop)]
 pub(crate) struct Unlinked {
     pub(crate) catalog: Catalog,
-    // The numbers of the essential names.
+    /// The numbers of the essential names.
     pub(crate) essential: Vec<u32>,
 }
 
@@ -62,7 +62,7 @@ impl Unlinked {
         self.catalog.packages.len() as u32
     }
 
-    // The rows of the packages in a range of places.
+    /// The rows of the packages in a range of places.
     fn links_in(&self, alloc: Global, from: u32, to: u32) -> Result<Links, AllocError>
         requires { IsRange self.now from to }
         ensures { IfOk result (λ l. IsLinked self.now (packages_in self.now from to) l) }
@@ -70,7 +70,7 @@ impl Unlinked {
         Links::of(alloc, &Lookup::new(&self.catalog), from, to)
     }
 
-    // The index with its rows, where these could be made.
+    /// The index with its rows, where these could be made.
     fn with_links(self, links: Result<Links, AllocError>) -> Result<Index, AllocError>
         requires { IfOk links (λ l. IsLinked self self.packages l) }
         ensures { IfOk result (λ index. index ≡ self) }
@@ -84,7 +84,7 @@ impl Unlinked {
     }
 }
 
-// Where the first worker's range ends: where the whole does, if that is too short for two.
+/// Where the first worker's range ends: where the whole does, if that is too short for two.
 fn first_end(from: u32, to: u32, workers: u32) -> u32
     requires { from ≤ to }
     ensures { (from ≤ result) × (result ≤ to) }
@@ -95,7 +95,7 @@ fn first_end(from: u32, to: u32, workers: u32) -> u32
     from + ((to - from) / workers).max(RANGE_SIZE)
 }
 
-// The rows of the packages in a range of places, by so many workers.
+/// The rows of the packages in a range of places, by so many workers.
 fn links_on<R: Threads + Sync>(
     rt: &R,
     alloc: Global,

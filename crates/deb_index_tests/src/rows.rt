@@ -11,12 +11,12 @@ const MIXED: &str =
 Conflicts: a, v; Breaks: w (<< 2), none; Provides: a (= 7), v (= 2)} /
 w 1 amd64 {Multi-Arch: allowed; Provides: v; Depends: a (= 7)} / v 3 / w 2 {Conflicts: v (>> 2), w:any; Depends: a (= 1) | a (>> 1) | w, v}";
 
-// Each atom is asked for by two packages, most of them in both roles.
+/// Each atom is asked for by two packages, most of them in both roles.
 const ASKED_TWICE: &str =
     "first 1 {Depends: v (>= 2), w:any, v, none; Conflicts: w:any, v (>= 2), v (<< 3)} / v 2 / v 3 / w 1 {Multi-Arch: allowed; Provides: v (= 2)} /
 w 2 {Provides: none (= 1), v} / second 1 {Pre-Depends: v; Depends: v (<< 3), v (>= 2), w:any, none | w (= 2); Breaks: v (>= 2), v (= 3), w:any}";
 
-// A row that comes again has the same places, and an atom that stands in both roles a row in each.
+/// A row that comes again has the same places, and an atom that stands in both roles a row in each.
 static CASES: [Case; 2] = [
     Case {
         name: "rows and answers of one index",
@@ -114,8 +114,8 @@ struct Crowd {
 
 const ROWS: &[Part] = &[Part::Counts, Part::AnswerRows, Part::HitRows];
 
-// A row stands where no more than 256 packages meet what is asked for, however many have the name. Where more do, there is none for whoever asks,
-// also behind rows that come again.
+/// A row stands where no more than 256 packages meet what is asked for, however many have the name. Where more do, there is none for whoever asks,
+/// also behind rows that come again.
 static CROWDS: [Crowd; 6] = [
     Crowd {
         asked: ALONE_AND_BESIDE,

@@ -11,7 +11,7 @@ const MAIL_AGENTS: &str =
 
 const PROVIDED: &str = "v 1 {Provides: v (= 2), v} / w 1 {Provides: v}";
 
-// One package provides each of these names, some twice, some without a version, and some for another architecture.
+/// One package provides each of these names, some twice, some without a version, and some for another architecture.
 const MANY_NAMES: &str =
     "p 5 {Provides: n1 (= 1), n2, n3 (= 3), n1 (= 2), n4:i386 (= 4), n2 (= 2), n5:any, p (= 9);
 Depends: n1 (= 1), n1 (= 2), n1 (= 3), n2, n2 (= 2), n2 (= 3), n3 (>> 2), n3 (<< 3), n4, n5, n5 (= 5), p (= 9), p (= 5), p (= 1), n1:any;

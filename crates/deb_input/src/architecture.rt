@@ -5,7 +5,7 @@ use crate::naming::{Input, name_of, text_of};
 use run_settings::Config;
 use std::alloc::Global;
 
-// What Debian calls an architecture, and other words for it.
+/// What Debian calls an architecture, and other words for it.
 static WORDS: [&str; 7] = [
     "amd64 x64 x86-64",
     "arm64 aarch64",
@@ -16,7 +16,7 @@ static WORDS: [&str; 7] = [
     "s390x",
 ];
 
-// What Debian calls an architecture that is called otherwise here, in other words or in large letters.
+/// What Debian calls an architecture that is called otherwise here, in other words or in large letters.
 fn debian_word<'t>(arch: &str) -> Option<&'t str> {
     for words in &WORDS {
         if words.split(' ').any(|word| arch.eq_ignore_ascii_case(word)) {
@@ -26,7 +26,7 @@ fn debian_word<'t>(arch: &str) -> Option<&'t str> {
     None
 }
 
-// The architecture, beside `all`, that more than half of a text's other stanzas are of, where the first of them is.
+/// The architecture, beside `all`, that more than half of a text's other stanzas are of, where the first of them is.
 fn most_of(text: &[u8]) -> Option<&[u8]> {
     let mut first = None;
     let (mut others, mut same) = (0u64, 0u64);

@@ -5,10 +5,10 @@ use crate::naming::text_of;
 use deb_index::Index;
 use std::alloc::Global;
 
-// The shortest name that is taken for another one.
+/// The shortest name that is taken for another one.
 const LEAST: usize = 3;
 
-// Whether one letter more, less or other makes one name of the other, or two that change places.
+/// Whether one letter more, less or other makes one name of the other, or two that change places.
 fn is_one_off(a: &[u8], b: &[u8]) -> bool {
     let (short, long) = (a.len().min(b.len()), a.len().max(b.len()));
     if short < LEAST || long > short.saturating_add(1) {
@@ -25,7 +25,7 @@ fn is_one_off(a: &[u8], b: &[u8]) -> bool {
     }
 }
 
-// The first package of the foreground whose name is one letter off.
+/// The first package of the foreground whose name is one letter off.
 fn near<'i>(index: &'i Index, name: &[u8]) -> Option<&'i [u8]> {
     for place in 0..index.len().min(index.foreground()) {
         let other = index.package(place).name.as_slice();

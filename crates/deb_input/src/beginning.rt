@@ -4,7 +4,7 @@ use crate::lines::has_field;
 use crate::naming::{Input, name_of, option_of, text_of};
 use std::alloc::Global;
 
-// What is likely wrong with an input, and what to do: advice, or a command that makes an index of its file FILE.
+/// What is likely wrong with an input, and what to do: advice, or a command that makes an index of its file FILE.
 type Likely = (&'static [u8], &'static [u8]);
 
 const TAKE_PACKAGES: &[u8] = b"take a file Packages";
@@ -18,7 +18,7 @@ const SIGNED: Likely = (b"is a signed text, as InRelease", TAKE_PACKAGES);
 
 const BYTE_ORDER: Likely = (b"begins with a byte order mark", b"tail -c +4 FILE");
 
-// How files begin that are no index as they stand (RFC 1952 for gzip, RFC 8878 for zstd, else the format's own description).
+/// How files begin that are no index as they stand (RFC 1952 for gzip, RFC 8878 for zstd, else the format's own description).
 static MARKS: [(&[u8], Likely); 8] = [
     (b"\x1f\x8b", (b"is compressed by gzip", b"zcat FILE")),
     (b"\xfd7zXZ\0", (b"is compressed by xz", b"xzcat FILE")),
@@ -30,7 +30,7 @@ static MARKS: [(&[u8], Likely); 8] = [
     (b"-----BEGIN", SIGNED),
 ];
 
-// Whether the first line ends with a carriage return and a line feed.
+/// Whether the first line ends with a carriage return and a line feed.
 fn is_returned(front: &[u8]) -> bool {
     let mut lines = front.split(|b| *b == b'\n');
     match (lines.next(), lines.next()) {
@@ -39,7 +39,7 @@ fn is_returned(front: &[u8]) -> bool {
     }
 }
 
-// What is likely wrong with an input that begins so: the first of these that holds.
+/// What is likely wrong with an input that begins so: the first of these that holds.
 fn likely(front: &[u8]) -> Option<Likely> {
     for (mark, likely) in &MARKS {
         if front.starts_with(mark) {

@@ -9,8 +9,7 @@ use deb_index::IndexError;
 use std::alloc::{AllocError, AllocFailed, Global};
 use thiserror::Error;
 
-/// Why there is no report, or no whole one. The first cause in this order is told, but for those of the names that are asked, which go before all
-/// others, and for want of memory, which may come at any time before writing.
+/// Why there is no report, or no whole one. Which of several causes is told stands in docs/formats.md.
 #[derive(Debug, Drop, Error)]
 pub enum RunFault {
     /// The reader failed.
@@ -79,7 +78,7 @@ impl<T: Drop> From<AllocFailed<T>> for RunFault {
     }
 }
 
-// A number in decimal digits.
+/// A number in decimal digits.
 fn push_number(alloc: Global, out: &mut Vec<u8>, number: u64) -> Result<(), AllocError>
     ensures { OnOk result (out.new.items ≡ out.old.items ++ decimal number) }
 {
@@ -87,7 +86,7 @@ fn push_number(alloc: Global, out: &mut Vec<u8>, number: u64) -> Result<(), Allo
     out.extend_from_slice(digits.as_str().as_bytes())
 }
 
-// What is said of a stanza.
+/// What is said of a stanza.
 #[tactic(auto, unfolding(crate::specs::Faults::stanza_text))]
 fn push_stanza(alloc: Global, out: &mut Vec<u8>, stanza: u64, what: &[u8]) -> Result<(), AllocError>
     ensures { OnOk result (out.new.items ≡ out.old.items ++ stanza_text stanza what.now) }
@@ -131,7 +130,7 @@ fn slip_text(slip: Slip) -> &'static [u8]
     }
 }
 
-// What is said of a fault.
+/// What is said of a fault.
 #[tactic(auto, unfolding(crate::specs::Faults::fault_text))]
 fn push_fault(alloc: Global, out: &mut Vec<u8>, fault: &RunFault) -> Result<(), AllocError>
     ensures { OnOk result (out.new.items ≡ out.old.items ++ fault_text fault.now) }

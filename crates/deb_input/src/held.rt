@@ -10,16 +10,16 @@ use devices::Source;
 use std::alloc::{AllocError, Global};
 use std::marker::Model;
 
-// How many bytes are read at once at least, where so many are wanted.
+/// How many bytes are read at once at least, where so many are wanted.
 const LEAST: usize = 65_536;
 
 /// Bytes that were read and are not yet taken. Their memory is kept for the next ones, since what is given back and asked for again
 /// costs time. Contracts see it as the bytes.
 #[derive(Drop)]
 pub(crate) struct Held {
-    // Room for bytes, whose front has those that are held.
+    /// Room for bytes, whose front has those that are held.
     bytes: Vec<u8>,
-    // How many these are.
+    /// How many these are.
     filled: usize,
 }
 
@@ -33,7 +33,7 @@ impl Model for Held {
     ghost invariant = { λ h. h.filled ≤ length h.bytes.items };
 }
 
-// Makes room for so many bytes in all, where there is less.
+/// Makes room for so many bytes in all, where there is less.
 fn widen(bytes: &mut Vec<u8>, size: usize) -> Result<(), AllocError>
     ensures room { OnOk result (size ≤ length bytes.new.items) }
     ensures kept { take (length bytes.old.items) bytes.new.items ≡ bytes.old.items }
@@ -66,7 +66,7 @@ impl Held {
         self.filled
     }
 
-    // How many of so many bytes are read next: as many as there is room for, or as are held, so that a short text asks for little memory.
+    /// How many of so many bytes are read next: as many as there is room for, or as are held, so that a short text asks for little memory.
     fn part_of(&self, count: usize) -> usize
         requires { 0 < count }
         ensures some { 0 < result }
@@ -76,7 +76,7 @@ impl Held {
         room.max(self.filled).max(LEAST).min(count)
     }
 
-    // Reads up to so many bytes more behind those that are held, by one read; how many came.
+    /// Reads up to so many bytes more behind those that are held, by one read; how many came.
     fn read_part<S: Source>(&mut self, reader: &mut S, count: usize) -> Result<usize, RunFault>
         requires some { 0 < count }
         requires count { length self.old + count < 2 ^ 64 }

@@ -9,7 +9,7 @@ use crate::held::Held;
 use devices::Source;
 use std::alloc::Global;
 
-// How many bytes are read at once at most.
+/// How many bytes are read at once at most.
 const STEP: usize = 262_144;
 
 /// Reads to the end and keeps nothing.

@@ -1,6 +1,6 @@
 //! The lines of a text and their fields, and what of a value is shown.
 
-// How many bytes of a value are shown.
+/// How many bytes of a value are shown.
 const SHOWN: usize = 60;
 
 /// Whether a line has spaces and tabs alone.

@@ -12,7 +12,7 @@ use deb_relation::is_name;
 use devices::Source;
 use std::alloc::{AllocError, Global};
 
-// The text without a line feed at its end.
+/// The text without a line feed at its end.
 fn without_feed(text: &[u8]) -> &[u8]
     ensures { result.now ≡ without_feed text.now }
 {
@@ -22,7 +22,7 @@ fn without_feed(text: &[u8]) -> &[u8]
     text
 }
 
-// The parts of a text between line feeds.
+/// The parts of a text between line feeds.
 #[tactic(auto, unfolding(crate::specs::Names::lines_in))]
 fn lines_of(alloc: Global, text: &[u8]) -> Result<Vec<&[u8]>, AllocError>
     ensures { IfOk result (λ lines. map (λ line. line.now) lines.items ≡ lines_in text.now) }
@@ -31,7 +31,7 @@ fn lines_of(alloc: Global, text: &[u8]) -> Result<Vec<&[u8]>, AllocError>
     lines.split(|b| *b == b'\n').collect(alloc)
 }
 
-// The names that a text has, one a line.
+/// The names that a text has, one a line.
 fn names_of(alloc: Global, text: &[u8]) -> Result<Vec<Vec<u8>>, RunFault>
     requires { length text.now ≤ byte_limit }
     ensures good { IfOk result (λ names. are_names text.now ≡ true) }

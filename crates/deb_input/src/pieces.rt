@@ -27,8 +27,8 @@ pub struct TextRead {
     pub last: Vec<u8>,
 }
 
-// Takes what is held into the index, up to the first empty line of its last quarter. Answers how many bytes that are: none, where there is no such
-// line.
+/// Takes what is held into the index, up to the first empty line of its last quarter. Answers how many bytes that are: none, where there is no such
+/// line.
 fn take_piece<R: Threads + Sync>(
     rt: &R,
     alloc: Global,
@@ -49,7 +49,7 @@ fn take_piece<R: Threads + Sync>(
     Ok((next, piece.len()))
 }
 
-// Takes all that is held into the index, behind which the text ends.
+/// Takes all that is held into the index, behind which the text ends.
 fn take_last<R: Threads + Sync>(
     rt: &R,
     alloc: Global,
@@ -68,7 +68,7 @@ fn take_last<R: Threads + Sync>(
     }
 }
 
-// Reads a piece more behind what is held, or all that is left where that is less, and tells whether it was less. No more than the limit is held.
+/// Reads a piece more behind what is held, or all that is left where that is less, and tells whether it was less. No more than the limit is held.
 fn read_piece<S: Source>(
     reader: &mut S,
     held: &mut Held,

@@ -8,7 +8,7 @@ use deb_index::Index;
 use run_settings::Config;
 use std::alloc::Global;
 
-// Whether no package of these places is of the architecture that is asked for.
+/// Whether no package of these places is of the architecture that is asked for.
 fn is_elsewhere(index: &Index, from: u32, to: u32) -> bool {
     for place in from..to.min(index.len()) {
         if index.package(place).architecture.as_slice() == index.arch() {

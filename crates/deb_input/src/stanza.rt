@@ -11,7 +11,7 @@ const TWO_INDEXES: &[u8] =
 
 const CUT_OFF: &[u8] = b", and its last line has no end: was the file cut off?";
 
-// Of which package the stanza with a number is, counted from 1, and what may be wrong beside. A comment neither opens nor ends one.
+/// Of which package the stanza with a number is, counted from 1, and what may be wrong beside. A comment neither opens nor ends one.
 fn look_at<'t>(text: &'t [u8], number: u64) -> (Option<&'t [u8]>, &'t [u8]) {
     let mut package = None;
     let mut left = number;
@@ -35,7 +35,7 @@ fn look_at<'t>(text: &'t [u8], number: u64) -> (Option<&'t [u8]>, &'t [u8]) {
     (package, CUT_OFF)
 }
 
-// The stanza that a fault is of.
+/// The stanza that a fault is of.
 fn stanza_of(fault: &IndexError) -> Option<u64> {
     match fault {
         IndexError::BadLine { stanza }

@@ -12,9 +12,9 @@ use std::marker::Model;
 /// Groups of alternatives, as Depends and Pre-Depends have them (Policy 7.1 and 7.2). Contracts see them as a list of groups.
 #[derive(Drop)]
 pub struct Groups {
-    // The atoms of all groups, one group behind the other.
+    /// The atoms of all groups, one group behind the other.
     atoms: Vec<Atom>,
-    // Where each group ends among the atoms; it begins where the one before it ends. Where each has one atom, there are none of these.
+    /// Where each group ends among the atoms; it begins where the one before it ends. Where each has one atom, there are none of these.
     ends: Vec<usize>,
 }
 
@@ -30,7 +30,7 @@ impl Model for Groups {
     ghost invariant = { λ g. MayBeEnds (length g.atoms.items) g.ends.items };
 }
 
-// Reads a field of which any group may have several atoms.
+/// Reads a field of which any group may have several atoms.
 fn read_several(alloc: Global, text: &[u8]) -> Result<Groups, RelationError>
     ensures { Gives (λ g. g) result (groups_of text.now) }
 {
@@ -51,7 +51,7 @@ fn read_several(alloc: Global, text: &[u8]) -> Result<Groups, RelationError>
     Ok(Groups { atoms, ends })
 }
 
-// Where a group begins, by the ends of all groups.
+/// Where a group begins, by the ends of all groups.
 fn start_of(ends: &[usize], number: usize) -> usize
     requires { number < length ends.now }
     ensures { result ≡ slice_index_or (0 ∷ ends.now) number 0 }

@@ -6,13 +6,13 @@ ghost use Rattle.deb_relation.specs.SmallText.{short_len};
 use std::alloc::{AllocError, Global};
 use std::marker::Model;
 
-// How many bytes lie in the value at most. Most names and versions have fewer.
+/// How many bytes lie in the value at most. Most names and versions have fewer.
 const SHORT_LEN: usize = 30;
 
-// Where the bytes of a text lie.
+/// Where the bytes of a text lie.
 #[derive(Drop)]
 enum Bytes {
-    // The first so many of these.
+    /// The first so many of these.
     Short(u8, [u8; SHORT_LEN]),
     Long(Vec<u8>),
 }

@@ -32,7 +32,7 @@ impl From<AllocError> for AskedFault {
     }
 }
 
-// All places below a count, rising.
+/// All places below a count, rising.
 fn places_below(alloc: Global, count: u32) -> Result<Vec<u32>, AllocError>
     ensures value { IfOk result (λ places. places.items ≡ below count) }
     ensures few { IfOk result (λ places. length places.items ≤ count) }
@@ -45,7 +45,7 @@ fn places_below(alloc: Global, count: u32) -> Result<Vec<u32>, AllocError>
     Ok(places)
 }
 
-// The first of the names that no package of the foreground has.
+/// The first of the names that no package of the foreground has.
 fn first_unknown<'n>(index: &Index, names: &'n [Vec<u8>]) -> Option<&'n Vec<u8>>
     ensures { let unknown = find (is_unknown index.now) (map (λ name. name.items) names.now) in
         MatchOption result (unknown ≡ None) (λ name. unknown ≡ Some name.now.items) }
@@ -58,7 +58,7 @@ fn first_unknown<'n>(index: &Index, names: &'n [Vec<u8>]) -> Option<&'n Vec<u8>>
     None
 }
 
-// Whether no package of the foreground has the name: the first of its places tells.
+/// Whether no package of the foreground has the name: the first of its places tells.
 pub(crate) fn is_unknown(index: &Index, name: &[u8]) -> bool
     ensures { result ≡ is_unknown index.now name.now }
 {
@@ -68,7 +68,7 @@ pub(crate) fn is_unknown(index: &Index, name: &[u8]) -> bool
     }
 }
 
-// Marks those of these places that there is a mark for.
+/// Marks those of these places that there is a mark for.
 fn mark_places(marks: &mut [bool], places: &[u32])
     ensures { (k : ℕ) → k < length marks.old → slice_index_or marks.new k false ≡
         (slice_index_or marks.old k false || list_any (λ place. place == k) places.now) }
@@ -80,7 +80,7 @@ fn mark_places(marks: &mut [bool], places: &[u32])
     }
 }
 
-// Marks the places of the names, as far as there are marks.
+/// Marks the places of the names, as far as there are marks.
 fn mark_names(index: &Index, names: &[Vec<u8>], marks: &mut [bool])
     requires { length marks.old ≤ length index.now.packages }
     ensures { (k : ℕ) → k < length marks.old → slice_index_or marks.new k false ≡
@@ -91,7 +91,7 @@ fn mark_names(index: &Index, names: &[Vec<u8>], marks: &mut [bool])
     }
 }
 
-// The places that are marked, rising.
+/// The places that are marked, rising.
 fn marked_places(alloc: Global, marks: &[bool]) -> Result<Vec<u32>, AllocError>
     requires { length marks.now < 2 ^ 32 }
     ensures { IfOk result (λ places. places.items ≡ places_where (λ mark. mark) marks.now) }
@@ -105,7 +105,7 @@ fn marked_places(alloc: Global, marks: &[bool]) -> Result<Vec<u32>, AllocError>
     Ok(places)
 }
 
-// The places of the names in the foreground, rising, each once.
+/// The places of the names in the foreground, rising, each once.
 fn listed_places(alloc: Global, index: &Index, names: &[Vec<u8>]) -> Result<Vec<u32>, AllocError>
     ensures value { IfOk result (λ places. places.items ≡ places_where (is_listed (map (λ name. name.items) names.now)) (foreground_packages index.now)) }
     ensures few { IfOk result (λ places. length places.items ≤ index.now.foreground) }
@@ -130,7 +130,7 @@ pub fn earlier_places(alloc: Global, index: &Index, config: &Config) -> Result<V
     }
 }
 
-// The first of the listed names that no package of the foreground has.
+/// The first of the listed names that no package of the foreground has.
 fn unknown_of<'c>(index: &Index, config: &'c Config) -> Option<&'c Vec<u8>>
     ensures { let unknown = unknown_in index.now (settings_of config.now).only in
         MatchOption result (unknown ≡ None) (λ name. unknown ≡ Some name.now.items) }

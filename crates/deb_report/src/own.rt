@@ -12,7 +12,7 @@ use std::marker::Model;
 #[derive(Drop)]
 pub(crate) struct OwnTable<'c> {
     core: &'c [Constraint],
-    // By the package's place.
+    /// By the package's place.
     lists: HashMap<u32, Vec<Constraint>>,
 }
 

@@ -17,7 +17,8 @@ use crate::hits::hits_of;
 use crate::parts::{Part, package_part};
 use deb_causes::{NearMiss, is_missing, near_misses};
 use deb_index::{Constraint, Package, RelField};
-use deb_relation::{Atom, Print};
+use deb_relation::{Atom, Print, push_texts};
+use run_settings::Format;
 use std::alloc::AllocError;
 use std::slice;
 
@@ -97,12 +98,19 @@ impl<'i> Print<u32> for Writer<'i> {
 
     ghost text = { λ writer place. place_in writer.config.now.format writer.index.now place };
 
+    // In lines the name and the version are written straight: most of a long report are these.
+    #[tactic(auto, unfolding(crate::specs::Forms::item_front, crate::specs::Forms::lead_of, crate::specs::Forms::part_line))]
     fn print(&self, out: &mut Vec<u8>, place: &u32) -> Result<(), AllocError> {
-        self.push_item(
-            out,
-            Lead::Within,
-            &[package_part(self.index.package(*place))],
-        )?;
+        let deb = self.index.package(*place);
+        match self.config.format {
+            Format::Text => {
+                push_texts(out, &[b"   - ", deb.name.as_slice()])?;
+                out.push(b' ')?;
+                out.extend_from_slice(deb.version.text())?;
+                out.push(b'\n')?;
+            }
+            Format::Json => self.push_item(out, Lead::Within, &[package_part(deb)])?,
+        }
         Ok(())
     }
 }

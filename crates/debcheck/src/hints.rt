@@ -45,7 +45,7 @@ pub(crate) fn note_input<S: Source, B: Source>(
     }
 }
 
-// What is told of a run of whose inputs nothing was noted.
+/// What is told of a run of whose inputs nothing was noted.
 fn text_of<O: Opener>(
     alloc: Global,
     config: &Config,

@@ -62,7 +62,7 @@ pub fn write_line_fault<K: Sink, E: Sink>(
     }
 }
 
-// Whether no line is told of a fault: where nobody reads the output any more, as in front of `head`, nobody misses it.
+/// Whether no line is told of a fault: where nobody reads the output any more, as in front of `head`, nobody misses it.
 fn is_silent(abandoned: bool, fault: &RunFault) -> bool
     ensures { result ≡ is_silent abandoned fault.now }
 {

@@ -20,7 +20,7 @@ use std::mem::forget;
 use std::thread::Threads;
 use work_draw::Gate;
 
-// Gives an index back, where somebody has use for its memory.
+/// Gives an index back, where somebody has use for its memory.
 fn let_go(index: Index, is_last: bool) {
     if is_last {
         forget(index);
@@ -29,7 +29,7 @@ fn let_go(index: Index, is_last: bool) {
     }
 }
 
-// Reads what stands behind the index: the background, where one is asked for, else no bytes.
+/// Reads what stands behind the index: the background, where one is asked for, else no bytes.
 fn read_behind<B: Source>(
     alloc: Global,
     config: &Config,

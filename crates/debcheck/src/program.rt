@@ -37,7 +37,7 @@ pub struct Ended<K> {
     pub output: K,
 }
 
-// The run on an opened background. The earlier index's file is opened before anything is read.
+/// The run on an opened background. The earlier index's file is opened before anything is read.
 fn run_behind<O: Opener, S: Source, B: Source, K: Sink, G: Gate + Sync, R: Threads + Sync>(
     job: &Job<'_, G, R>,
     files: &O,
@@ -67,7 +67,7 @@ fn run_behind<O: Opener, S: Source, B: Source, K: Sink, G: Gate + Sync, R: Threa
     }
 }
 
-// The run under a configuration. The background's file is opened before anything is read, and before that of the earlier index.
+/// The run under a configuration. The background's file is opened before anything is read, and before that of the earlier index.
 fn open_and_run<O: Opener, S: Source, K: Sink, G: Gate + Sync, R: Threads + Sync>(
     job: &Job<'_, G, R>,
     files: &O,
@@ -96,7 +96,7 @@ fn open_and_run<O: Opener, S: Source, K: Sink, G: Gate + Sync, R: Threads + Sync
     }
 }
 
-// Takes the names that are asked out of the file that has them, where the words name one.
+/// Takes the names that are asked out of the file that has them, where the words name one.
 fn take_names<O: Opener>(alloc: Global, files: &O, config: &mut Config) -> Result<(), RunFault>
     ensures taken { OnOk result (TakesNames (O.named files.now) (option_map string_bytes config.old.only_file)
         (settings_of config.old) (settings_of config.new)) }
@@ -119,7 +119,7 @@ fn take_names<O: Opener>(alloc: Global, files: &O, config: &mut Config) -> Resul
     }
 }
 
-// The run under a configuration. The file of names is opened and read before all else.
+/// The run under a configuration. The file of names is opened and read before all else.
 fn name_and_run<O: Opener, S: Source, K: Sink, G: Gate + Sync, R: Threads + Sync + AllocGlobal>(
     rt: &R,
     config: &mut Config,
@@ -148,7 +148,7 @@ fn name_and_run<O: Opener, S: Source, K: Sink, G: Gate + Sync, R: Threads + Sync
     open_and_run(&job, files, reader, output)
 }
 
-// The configuration that the words ask for.
+/// The configuration that the words ask for.
 fn config_of(alloc: Global, words: Result<Vec<String>, LineFault>) -> Result<Config, LineFault>
     ensures asked { Asks (result_map_both (λ list. map string_bytes list.items) (λ fault. fault) words) result }
     ensures workers { IfOk result (λ config. (0 < config.workers) × (config.workers ≤ 64)) }

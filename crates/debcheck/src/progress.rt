@@ -7,24 +7,24 @@ use std::sync::atomic::{AtomicU32, AtomicU64, Ordering};
 use std::time::{Clock, Duration, Instant};
 use work_draw::Gate;
 
-// How often in a second the line is written.
+/// How often in a second the line is written.
 const TURNS: u64 = 5;
 
-// What is told while the index is read, and where it is typed on a terminal.
+/// What is told while the index is read, and where it is typed on a terminal.
 const READING: &[u8] = b"\rreading the index";
 
 const TYPED: &[u8] = b"\rreading the index from the terminal (debcheck .. < Packages)";
 
-// What takes the line away: as many blanks as its longest text has bytes.
+/// What takes the line away: as many blanks as its longest text has bytes.
 const BLANK: &[u8] = b"\r                                                            \r";
 
-// The turn at a time since the start; the first second has the turns below `TURNS`.
+/// The turn at a time since the start; the first second has the turns below `TURNS`.
 fn turn_at(spent: Duration) -> u64 {
     let turns = u64::from(spent.subsec_millis()) / (1000 / TURNS);
     spent.as_secs().saturating_mul(TURNS).saturating_add(turns)
 }
 
-// A number's digits, with commas between the thousands.
+/// A number's digits, with commas between the thousands.
 fn grouped(alloc: Global, number: u32) -> Result<String, AllocError> {
     let digits = number.to_string(alloc)?;
     let mut text = String::new(alloc);
@@ -45,13 +45,13 @@ fn grouped(alloc: Global, number: u32) -> Result<String, AllocError> {
 pub struct Progress<'a, R, T> {
     rt: &'a R,
     screen: T,
-    // When the run began, where anything is told.
+    /// When the run began, where anything is told.
     began: Option<Instant>,
     chunk: u32,
-    // How many packages the check has, and how many of them are checked.
+    /// How many packages the check has, and how many of them are checked.
     all: AtomicU32,
     checked: AtomicU32,
-    // The turn in which the line was written; `TURNS` where it doesn't stand there.
+    /// The turn in which the line was written; `TURNS` where it doesn't stand there.
     told: AtomicU64,
 }
 
@@ -74,7 +74,7 @@ impl<'a, R: Clock + AllocGlobal, T: IsTerminal + Write + Copy> Progress<'a, R, T
         }
     }
 
-    // Writes the line. Where it cannot be written, nothing is told.
+    /// Writes the line. Where it cannot be written, nothing is told.
     fn tell(&self) -> Result<(), AllocError> {
         let alloc = self.rt.alloc();
         let all = self.all.load(Ordering::SeqCst);
@@ -87,7 +87,7 @@ impl<'a, R: Clock + AllocGlobal, T: IsTerminal + Write + Copy> Progress<'a, R, T
         Ok(())
     }
 
-    // Tells how far the check has come, where a turn has begun in which nobody told it.
+    /// Tells how far the check has come, where a turn has begun in which nobody told it.
     fn tell_in_turn(&self) {
         let Some(Ok(spent)) = self.began.map(|began| began.elapsed(self.rt)) else {
             return;

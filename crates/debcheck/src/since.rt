@@ -18,7 +18,7 @@ use devices::{Sink, Source};
 use std::thread::Threads;
 use work_draw::Gate;
 
-// A fault of the earlier index, where that was read as an index.
+/// A fault of the earlier index, where that was read as an index.
 fn as_earlier(fault: RunFault) -> RunFault
     ensures { result ≡ earlier_fault fault }
 {
@@ -30,7 +30,7 @@ fn as_earlier(fault: RunFault) -> RunFault
     }
 }
 
-// Reads the earlier index and the background behind it, and tells what is broken in it, and what the background has. The earlier index is given back.
+/// Reads the earlier index and the background behind it, and tells what is broken in it, and what the background has. The earlier index is given back.
 fn read_before<E: Source, B: Source, G: Gate + Sync, R: Threads + Sync>(
     job: &Job<'_, G, R>,
     earlier: &mut E,
@@ -62,7 +62,7 @@ fn read_before<E: Source, B: Source, G: Gate + Sync, R: Threads + Sync>(
     }
 }
 
-// Reads the index, piece by piece, in front of a background that was read before. What is guessed of it is noted on the reader.
+/// Reads the index, piece by piece, in front of a background that was read before. What is guessed of it is noted on the reader.
 fn read_now<S: Source, G: Gate + Sync, R: Threads + Sync>(
     job: &Job<'_, G, R>,
     reader: &mut S,

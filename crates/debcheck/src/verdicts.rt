@@ -95,7 +95,7 @@ impl Finder for Teller<'_> {
     }
 }
 
-// What the report tells of packages, since an earlier index or not.
+/// What the report tells of packages, since an earlier index or not.
 fn wanted_of(config: &Config, since: bool) -> Wanted
     ensures { result ≡ wanted_by (settings_of config.now) since }
 {
@@ -112,7 +112,7 @@ fn wanted_of(config: &Config, since: bool) -> Wanted
     }
 }
 
-// Marks, by place, on what is known to be installable; none where sets are told.
+/// Marks, by place, on what is known to be installable; none where sets are told.
 fn marks_for(
     alloc: Global,
     groundwork: &Groundwork<'_>,
@@ -129,8 +129,8 @@ fn marks_for(
     find_installable(alloc, groundwork, asked)
 }
 
-// What is told of the asked places of an index, in their order, on one groundwork for all of them. Where no set is, what `find_installable` marks is
-// looked up.
+/// What is told of the asked places of an index, in their order, on one groundwork for all of them. Where no set is, what `find_installable` marks is
+/// looked up.
 fn tell_each<'t, G: Gate + Sync, R: Threads + Sync>(
     job: &Job<'_, G, R>,
     index: &'t Index,
@@ -163,7 +163,7 @@ fn tell_each<'t, G: Gate + Sync, R: Threads + Sync>(
     told
 }
 
-// Checks the asked places, and makes the report on these.
+/// Checks the asked places, and makes the report on these.
 fn report_on<G: Gate + Sync, R: Threads + Sync>(
     job: &Job<'_, G, R>,
     index: &Index,
@@ -181,7 +181,7 @@ fn report_on<G: Gate + Sync, R: Threads + Sync>(
     Ok(report_told(job.alloc, index, asked, told, before, job.config)?)
 }
 
-// The same, since these packages were broken, where an earlier index is told of.
+/// The same, since these packages were broken, where an earlier index is told of.
 pub(crate) fn check_and_tell<G: Gate + Sync, R: Threads + Sync>(
     job: &Job<'_, G, R>,
     index: &Index,
@@ -202,7 +202,7 @@ pub(crate) fn check_and_tell<G: Gate + Sync, R: Threads + Sync>(
     }
 }
 
-// The packages that are broken in an earlier index, of those that are asked in it.
+/// The packages that are broken in an earlier index, of those that are asked in it.
 pub(crate) fn find_broken_packages<G: Gate + Sync, R: Threads + Sync>(
     job: &Job<'_, G, R>,
     index: &Index,

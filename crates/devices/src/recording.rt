@@ -7,7 +7,7 @@ use arrayvec::ArrayVec;
 use std::cell::Cell;
 use std::io::IsTerminal;
 
-// How many bytes are kept.
+/// How many bytes are kept.
 const FRONT_LIMIT: usize = 4_096;
 
 /// A source that keeps the first 4,096 bytes that are read through it, and a text that is noted on it. It takes no memory but its own.

@@ -7,12 +7,12 @@ ghost use Rattle.std.specs.Option.{option_map};
 use std::alloc::{AllocError, Global};
 use std::marker::Model;
 
-// Rows of places, each of which was put down once. Some are left out.
+/// Rows of places, each of which was put down once. Some are left out.
 #[derive(Drop)]
 struct RowStore {
-    // Where each row ends among the places; it begins where the one before it ends.
+    /// Where each row ends among the places; it begins where the one before it ends.
     ends: Vec<usize>,
-    // Whether each row is kept. Nothing lies in one that is left out.
+    /// Whether each row is kept. Nothing lies in one that is left out.
     kept: Vec<bool>,
     places: Vec<u32>,
 }
@@ -29,7 +29,7 @@ impl Model for RowStore {
 }
 
 impl RowStore {
-    // Puts a row down, last, or that it is left out.
+    /// Puts a row down, last, or that it is left out.
     fn push(&mut self, row: Option<&[u32]>) -> Result<(), AllocError>
         ensures ok { OnOk result (self.new ≡ self.old ++ option_map (λ r. r.now) row.entry ∷ []) }
         ensures err { OnErr result (self.new ≡ self.old) }
@@ -43,7 +43,7 @@ impl RowStore {
         Ok(())
     }
 
-    // Puts all rows of another store down, in their order.
+    /// Puts all rows of another store down, in their order.
     fn append(&mut self, more: &RowStore) -> Result<(), AllocError>
         ensures { OnOk result (self.new ≡ self.old ++ more.now) }
     {
@@ -53,14 +53,14 @@ impl RowStore {
         Ok(())
     }
 
-    // How many rows were put down or left out.
+    /// How many rows were put down or left out.
     fn len(&self) -> usize
         ensures { result ≡ length self.now }
     {
         self.ends.len()
     }
 
-    // The row with a number, unless it is left out.
+    /// The row with a number, unless it is left out.
     fn get(&self, number: usize) -> Option<&[u32]>
         requires { number < length self.now }
         ensures { option_map (λ r. r.now) result ≡ slice_index_or self.now number None }
@@ -74,7 +74,7 @@ impl RowStore {
     }
 }
 
-// Where a row begins, by the ends of all rows.
+/// Where a row begins, by the ends of all rows.
 fn start_of(ends: &[usize], number: usize) -> usize
     requires { number < length ends.now }
     ensures { result ≡ slice_index_or (0 ∷ ends.now) number 0 }
@@ -82,7 +82,7 @@ fn start_of(ends: &[usize], number: usize) -> usize
     if number == 0 { 0 } else { ends[number - 1] }
 }
 
-// Adds the numbers of rows whose store stands behind so many rows of another.
+/// Adds the numbers of rows whose store stands behind so many rows of another.
 fn push_behind(numbers: &mut Vec<u32>, before: u32, more: &[u32]) -> Result<(), AllocError>
     requires { All (λ n. before + n < 2 ^ 32) more.now }
     ensures { OnOk result (numbers.new.items ≡ numbers.old.items ++ map (λ n. before + n) more.now) }
@@ -96,7 +96,7 @@ fn push_behind(numbers: &mut Vec<u32>, before: u32, more: &[u32]) -> Result<(), 
 /// Rows of places by number. Some are left out. A row that comes again lies there once.
 #[derive(Drop)]
 pub struct Rows {
-    // The number of each in the store.
+    /// The number of each in the store.
     numbers: Vec<u32>,
     store: RowStore,
 }

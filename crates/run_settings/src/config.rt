@@ -56,7 +56,7 @@ pub struct Config {
     pub causes: bool,
     /// Whether a broken block that explains tells the cores of all causes, and not the first alone.
     pub all_reasons: bool,
-    /// Whether a broken block that explains tells the first core as it is walked from the package, and not as a list.
+    /// Whether a broken block that explains tells its cores as they are walked from the package, and not as lists.
     pub why: bool,
     pub format: Format,
     /// Whether nothing tells how far a run has come. The report does not depend on it.

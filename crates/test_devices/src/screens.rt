@@ -18,7 +18,7 @@ pub struct Screen<'a> {
     text: &'a [u8],
     lines: AtomicU32,
     others: AtomicU32,
-    // How much of the screen's last line is written on.
+    /// How much of the screen's last line is written on.
     width: AtomicU64,
     ends_left: AtomicU32,
 }
