@@ -4,8 +4,8 @@ use Rattle.std.specs.Prelude.{count_by}
 use Rattle.std.specs.List.Sorted.{IsStrictlyIncreasing}
 use Rattle.std.proofs.lemmas.List.Sums.{sum_by-cons}
 use Rattle.std.proofs.lemmas.Bool.{cases_Bool, false≢true, or_left, or_right, eq-eqb}
+use Rattle.number_sets.proofs.RisingLists.{above_first, rising_tail}
 use Rattle.deb_index.specs.Packages.{is_in}
-use Rattle.deb_index.proofs.OnceLemmas.{above-first, rising-tail}
 
 module _ (test : ℕ → Bool) where
   count-first : (x : ℕ) (xs : List ℕ) → test x ≡ true → count_by test (x ∷ xs) ≡ 1 + count_by test xs
@@ -43,12 +43,12 @@ module _ (test : ℕ → Bool) where
       elim (cases_Bool (test x)) [
         | inl passes ↦
             let none : count_by test xs ≡ 0 = count-none xs (λ q holds there.
-            let later : x < q = above-first x xs rising q there in
+            let later : x < q = above_first x xs rising q there in
             let same : x ≡ q = one x q passes holds (or_left (eqb x x) (is_in xs x) (eq-eqb x x refl)) (or_right (eqb x q) (is_in xs q) there) in
             omega (arith, later)) in
             omega (arith, count-first x xs passes)
         | inr fails ↦
-            let few : count_by test xs ≤ 1 = count-from-one xs (rising-tail x xs rising) (λ q r holds also there too.
+            let few : count_by test xs ≤ 1 = count-from-one xs (rising_tail x xs rising) (λ q r holds also there too.
             one q r holds also (or_right (eqb x q) (is_in xs q) there) (or_right (eqb x r) (is_in xs r) too)) in
             omega (arith, count-past x xs fails)
       ]

@@ -6,13 +6,13 @@ use Rattle.std.specs.Str.{bytes_eq}
 use Rattle.std.proofs.lemmas.Bool.{eq-eqb, eqb-true, false≢true, false_from_ne_true}
 use Rattle.std.proofs.lemmas.List.{get_or-map, length-map, take_more}
 use Rattle.std.proofs.lemmas.Option.{none-some, same_Some}
+use Rattle.number_sets.proofs.ListMembers.{same_test}
 use Rattle.deb_index.specs.declared.package.Package.{Package}
 use Rattle.deb_index.specs.Packages.{PackageView, is_in, is_named, no_package, package_view}
 use Rattle.deb_index.specs.Tables.{number_in}
 use Rattle.deb_index.proofs.FirstLemmas.{name-itself, same-name}
 use Rattle.deb_index.proofs.FoundLemmas.{or-none}
 use Rattle.deb_index.proofs.KeyLemmas.{any-push}
-use Rattle.deb_index.proofs.OnceLemmas.{same-test}
 use Rattle.deb_index.proofs.TableLemmas.{IsApart, some-any}
 
 -- a name's number is its place, where no name stands twice
@@ -25,7 +25,7 @@ number-of (k ∷ ks) (suc n) name apart at =
     rw differs (ap (option_map (λ i. suc i)) later)
 
 same-number : (ks : List (List ℕ)) (n q : ℕ) (a b : List ℕ) → IsApart ks → slice_get ks n ≡ Some a → slice_get ks q ≡ Some b → bytes_eq b a ≡ eqb n q
-same-number ks n q a b apart at too = same-test (bytes_eq b a) (eqb n q)
+same-number ks n q a b apart at too = same_test (bytes_eq b a) (eqb n q)
     (λ same. eq-eqb n q (same_Some n q (sym (number-of ks n a apart at) ∙ ap (λ m. number_in m ks) (sym (same-name b a same)) ∙ number-of ks q b apart too)))
     (λ same. ap (bytes_eq b) (same_Some a b (sym at ∙ ap (slice_get ks) (eqb-true n q same) ∙ too)) ∙ name-itself b)
 

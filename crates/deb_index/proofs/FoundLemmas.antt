@@ -10,6 +10,7 @@ use Rattle.std.proofs.lemmas.List.Folds.{list_any-append}
 use Rattle.std.proofs.lemmas.List.Kept.{IsStrictlyIncreasing-filter}
 use Rattle.std.proofs.lemmas.List.Sums.{count_by-le-length, length-filter}
 use Rattle.std.proofs.lemmas.Map.Views.{any-filter_same}
+use Rattle.number_sets.proofs.RisingLists.{rising_once}
 use Rattle.deb_relation.specs.declared.atom.Atom.{Atom}
 use Rattle.deb_relation.specs.Relationship.{atom_view, AtomText}
 use Rattle.deb_index.specs.declared.meets.Role.{Role}
@@ -17,7 +18,6 @@ use Rattle.deb_index.specs.Packages.{IndexView, is_in, places_where}
 use Rattle.deb_index.specs.Rows.{Adds, IsFound, meets_as, meets_as_at}
 use Rattle.deb_index.proofs.HoldsLemmas.{group-at}
 use Rattle.deb_index.proofs.MemberLemmas.{member-places_where, rising-places_where}
-use Rattle.deb_index.proofs.OnceLemmas.{rising-once}
 
 -- what is asked of a place is asked of itself
 pub asked-itself : (t : ℕ → Bool) (p q : ℕ) → (eqb p q && t p) ≡ (eqb p q && t q)
@@ -61,7 +61,7 @@ module _ {A : Type 0} (test : A → Bool) (xs : List A) (found : List ℕ) (risi
   places = places_where test xs
 
   pub in-order : ((q : ℕ) → is_in found q ≡ option_map_or test (slice_get xs q) false) → found ≡ places
-  in-order same = rising-once found places rising (rising-places_where test xs) (λ q. same q ∙ sym (member-places_where test xs q))
+  in-order same = rising_once found places rising (rising-places_where test xs) (λ q. same q ∙ sym (member-places_where test xs q))
 
   abbrev kept : List ℕ
   kept = filter (is_in found) places
@@ -72,7 +72,7 @@ module _ {A : Type 0} (test : A → Bool) (xs : List A) (found : List ℕ) (risi
   -- some of them are no more than all
   pub among-few : ((q : ℕ) → is_in found q ≡ true → option_map_or test (slice_get xs q) false ≡ true) → length found ≤ length places
   among-few among =
-      let same : found ≡ kept = rising-once found kept rising (IsStrictlyIncreasing-filter (is_in found) places (rising-places_where test xs))
+      let same : found ≡ kept = rising_once found kept rising (IsStrictlyIncreasing-filter (is_in found) places (rising-places_where test xs))
       (λ q. kept-same q (λ there. member-places_where test xs q ∙ among q there)) in
       omega (arith, ap length same, length-filter (is_in found) places, count_by-le-length (is_in found) places)
 

@@ -4,13 +4,13 @@ use Rattle.std.specs.Prelude.{count_by}
 use Rattle.std.specs.List.{list_any}
 use Rattle.std.specs.Option.{option_map_or}
 use Rattle.std.proofs.lemmas.Bool.{cases_Bool, false≢true, or_cases, or_left, or_right, and_from, and_parts, not-true, not_from_false, eqb-true, eq-eqb, leb-true, le-leb, false_from_ne_true}
+use Rattle.number_sets.proofs.ListMembers.{any_member, member_any}
 use Rattle.deb_index.specs.declared.constraint.Constraint.{Constraint}
 use Rattle.deb_index.specs.declared.constraint.Constraint.TheVariants.{Essential, Need, Apart, Only}
 use Rattle.deb_index.specs.Packages.{IndexView, PackageView, apart_at, is_named, name_at, need_at, places_of, places_where}
 use Rattle.deb_index.specs.Meets.{group_satisfiers, meets, meets_need, satisfiers}
 use Rattle.deb_index.specs.Constraints.{Holds, answers, is_holding}
 use Rattle.deb_index.proofs.MemberLemmas.{member-places_where, rising-places_where}
-use Rattle.deb_index.proofs.OnceLemmas.{any-member, member-any}
 use Rattle.deb_index.proofs.CountLemmas.{count-from-one, one-from-count}
 
 module _ {P A : Type 0} (test : P → A → Bool) where
@@ -37,10 +37,10 @@ module _ (index : IndexView) (set : ℕ → Bool) where
   answers-at p j q = group-at (meets_need index.arch) (need_at index p j) (slice_get index.packages q)
 
   some-at : (test : PackageView → Bool) → list_any set (places_where test index.packages) ≡ true → (q : ℕ) × (set q ≡ true) × (at test q ≡ true)
-  some-at test h = let found = any-member set (places_where test index.packages) h in (found.0, found.1, sym (member-places_where test index.packages found.0) ∙ found.2)
+  some-at test h = let found = any_member set (places_where test index.packages) h in (found.0, found.1, sym (member-places_where test index.packages found.0) ∙ found.2)
 
   at-some : (test : PackageView → Bool) (q : ℕ) → set q ≡ true → at test q ≡ true → list_any set (places_where test index.packages) ≡ true
-  at-some test q inside h = member-any set (places_where test index.packages) q inside (member-places_where test index.packages q ∙ h)
+  at-some test q inside h = member_any set (places_where test index.packages) q inside (member-places_where test index.packages q ∙ h)
 
   -- a member of the set other than p
   abbrev other : ℕ → ℕ → Bool
@@ -60,7 +60,7 @@ module _ (index : IndexView) (set : ℕ → Bool) where
         | inr none ↦ elim (cases_Bool (eqb q p)) [
           | inl same ↦ eqb-true q p same
           | inr differs ↦ absurd (false≢true (sym (not-true (list_any (other p) (satisfiers index (apart_at index p j))) none)
-              ∙ member-any (other p) (satisfiers index (apart_at index p j)) q (and_from (set q) (not (eqb q p)) there (not_from_false (eqb q p) differs)) (member-places_where (hit_by p j) index.packages q ∙ hit)))
+              ∙ member_any (other p) (satisfiers index (apart_at index p j)) q (and_from (set q) (not (eqb q p)) there (not_from_false (eqb q p) differs)) (member-places_where (hit_by p j) index.packages q ∙ hit)))
         ]
       ]
   holds-from-test (Only n) h = λ q r inside also named too.
@@ -80,7 +80,7 @@ module _ (index : IndexView) (set : ℕ → Bool) where
       elim (cases_Bool (set p)) [
         | inl inside ↦ or_right (not (set p)) (not (list_any (other p) (satisfiers index (apart_at index p j))))
             (not_from_false (list_any (other p) (satisfiers index (apart_at index p j))) (false_from_ne_true (list_any (other p) (satisfiers index (apart_at index p j))) (λ some.
-            let found = any-member (other p) (satisfiers index (apart_at index p j)) some in
+            let found = any_member (other p) (satisfiers index (apart_at index p j)) some in
             let parts = and_parts (set found.0) (not (eqb found.0 p)) found.1 in
             let same : found.0 ≡ p = h inside found.0 parts.0 (sym (member-places_where (hit_by p j) index.packages found.0) ∙ found.2) in
             false≢true (sym (not-true (eqb found.0 p) parts.1) ∙ eq-eqb found.0 p same))))

@@ -35,5 +35,6 @@ pub mod PartLemmas
 pub mod LinkLemmas
 pub mod ViewLemmas
 pub mod PositionLemmas
-pub mod OnceLemmas
+pub mod VersionLemmas
+pub mod OfferLemmas
 pub mod IndexFacts

@@ -16,7 +16,7 @@ use Rattle.deb_index.proofs.MemberLemmas.{from_fail, from_pass, member-places_wh
 -- ---- the entries of a package, asked by their numbers
 
 module _ {A : Type 0} (t g : A → Bool) where
-  numbers-any : (h : ℕ → Bool) (n : ℕ) (xs : List A) → ((i : ℕ) → h (n + i) ≡ option_map_or g (slice_get xs i) false) → list_any h (places_from t n xs) ≡ list_any (λ x. t x && g x) xs
+  pub numbers-any : (h : ℕ → Bool) (n : ℕ) (xs : List A) → ((i : ℕ) → h (n + i) ≡ option_map_or g (slice_get xs i) false) → list_any h (places_from t n xs) ≡ list_any (λ x. t x && g x) xs
   numbers-any h n [] same = refl
   numbers-any h n (x ∷ xs) same =
       let first : n ≡ n + 0 = omega arith in
@@ -57,7 +57,7 @@ module _ (f : ℕ → ℕ → Bool) (m : ℕ) where
     none-later n (x ∷ xs) less =
         list_any-append asks (at_place n (js x)) (entries (n + 1) xs) ∙ (λ k. at-other n (js x) (λ same. omega (arith, same, less)) k || none-later (n + 1) xs (omega (arith, less)) k)
 
-    entry-any : (n q : ℕ) (xs : List A) → n + q ≡ m → list_any asks (entries n xs) ≡ option_map_or (λ x. list_any (f m) (js x)) (slice_get xs q) false
+    pub entry-any : (n q : ℕ) (xs : List A) → n + q ≡ m → list_any asks (entries n xs) ≡ option_map_or (λ x. list_any (f m) (js x)) (slice_get xs q) false
     entry-any n q [] at = refl
     entry-any n zero (x ∷ xs) at =
         let same : n ≡ m = omega (arith, at) in
@@ -68,7 +68,7 @@ module _ (f : ℕ → ℕ → Bool) (m : ℕ) where
 
 -- ---- of the candidates of a name
 
-or-assoc : (a b c : Bool) → ((a || b) || c) ≡ (a || (b || c))
+pub or-assoc : (a b c : Bool) → ((a || b) || c) ≡ (a || (b || c))
 or-assoc a b c = grind arith
 
 -- whoever meets the atom has the name or meets it by an entry: n has the name, u may be taken, b has the version, a has an entry, w has the mark
@@ -136,10 +136,10 @@ entry-put found p q t passes = grind (arith, passes, list_any-append (λ place. 
 pub entry-left : (found : List ℕ) (p q : ℕ) (t : Bool) → t ≡ false → is_in found q ≡ (is_in found q || (eqb p q && t))
 entry-left found p q t fails = grind (arith, fails)
 
-pub entries-more : (before found : Bool) (role : Role) (index : IndexView) (atom : AtomText) (q : ℕ) (entries : List (ℕ × ℕ)) (i : ℕ) (e : ℕ × ℕ) (wanted : Bool)
-    → i < length entries → e ≡ get_or entries i (0, 0) → wanted ≡ provides_as_at role index e atom → found ≡ (before || list_any (is_entry_of role index atom q) (take i entries))
-    → (found || (eqb e.0 q && wanted)) ≡ (before || list_any (is_entry_of role index atom q) (take (i + 1) entries))
-entries-more before found role index atom q entries i e wanted within at is old =
-    let t : ℕ × ℕ → Bool = is_entry_of role index atom q in
-    (λ k. old k || (eqb e.0 q && is k)) ∙ or-assoc before (list_any t (take i entries)) (t e)
-    ∙ ap (λ b. before || b) (ap (λ b. list_any t (take i entries) || b) (ap t at) ∙ sym (list_any_more t entries i (0, 0) within))
+-- of elements that each have a place: those that pass, and the next
+pub any-more : {E : Type 0} (place : E → ℕ) (q : ℕ) (before found : Bool) (test : E → Bool) (es : List E) (i : ℕ) (e d : E) (wanted : Bool) → i < length es → e ≡ get_or es i d → wanted ≡ test e
+    → found ≡ (before || list_any (λ x. eqb (place x) q && test x) (take i es)) → (found || (eqb (place e) q && wanted)) ≡ (before || list_any (λ x. eqb (place x) q && test x) (take (i + 1) es))
+any-more {E} place q before found test es i e d wanted within at is old =
+    let t : E → Bool = λ x. eqb (place x) q && test x in
+    (λ k. old k || (eqb (place e) q && is k)) ∙ or-assoc before (list_any t (take i es)) (t e)
+    ∙ ap (λ b. before || b) (ap (λ b. list_any t (take i es) || b) (ap t at) ∙ sym (list_any_more t es i d within))

@@ -6,6 +6,7 @@ ghost use Rattle.deb_index.specs.Packages.{apart_at, aparts_at, need_at, needs_a
 ghost use Rattle.deb_index.specs.Meets.{group_satisfiers, meets_at, meets_need_at, satisfiers};
 ghost use Rattle.deb_index.specs.Rows.{row_limit};
 
+use crate::finder::Finder;
 use crate::index::Index;
 use crate::lookup::Lookup;
 use crate::meets::Role;
@@ -65,7 +66,13 @@ impl Index {
             return Ok(row);
         }
         let alternatives = self.need(place, number);
-        Lookup::new(&self.catalog).find(Role::Alternative, alternatives, usize::MAX, found)?;
+        let lookup = Lookup::new(&self.catalog);
+        Finder::new(*found.allocator(), &lookup).find(
+            Role::Alternative,
+            alternatives,
+            usize::MAX,
+            found,
+        )?;
         Ok(found)
     }
 
@@ -89,7 +96,8 @@ impl Index {
         ensures { IfOk result (λ v. v.items ≡ satisfiers self.now (atom_view atom.now)) }
     {
         let mut found = Vec::new(alloc);
-        Lookup::new(&self.catalog).find(Role::Entry, from_ref(atom), usize::MAX, &mut found)?;
+        let lookup = Lookup::new(&self.catalog);
+        Finder::new(alloc, &lookup).find(Role::Entry, from_ref(atom), usize::MAX, &mut found)?;
         Ok(found)
     }
 }

@@ -10,12 +10,12 @@ use crate::catalog::Catalog;
 use crate::duplicates::Draft;
 use crate::error::IndexError;
 use crate::limits::STANZA_LIMIT;
-use crate::lookup::put_in_order;
 use crate::names::Names;
 use crate::package::{Reading, next_reading};
 use crate::parts::Part;
 use crate::unlinked::Unlinked;
 use deb_control::Reader;
+use number_sets::sort_once;
 use std::alloc::{AllocError, Global};
 use std::collections::HashSet;
 use std::marker::Model;
@@ -207,7 +207,7 @@ impl Builder {
                 found.push(self.draft.catalog.numbers[place])?;
             }
         }
-        put_in_order(&mut found);
+        sort_once(&mut found);
         Ok(found)
     }
 }

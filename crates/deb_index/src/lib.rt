@@ -5,7 +5,8 @@
 //! - `limits`: how large an index may be, and what decides on time alone; `error`: why one is refused.
 //! - `package`: one stanza, read as a package; `meets`: what it asks for, and which atoms it meets.
 //! - `name_table`: names with their numbers; `names`: those that packages have or provide, with where each is found.
-//! - `lookup`: all places that meet an atom, found by the names.
+//! - `versions`: those of a name, in order; `lookup`: where names are found, and which packages there meet an atom; `finder`: all places that meet
+//!   some atoms.
 //! - `memo`: which row an atom got; `role_rows`: the rows of one role while they are made, which `number_sets` keeps; `links`: the row of each group
 //!   and of each entry, made once.
 //! - `catalog`: the packages, with their names and what was counted; `index`: the index of a text, or of a text and a background.
@@ -22,6 +23,7 @@ mod catalog;
 mod constraint;
 mod duplicates;
 mod error;
+mod finder;
 mod index;
 pub mod laws;
 mod limits;
@@ -37,6 +39,7 @@ mod pieces;
 mod read;
 mod role_rows;
 mod unlinked;
+mod versions;
 
 pub use constraint::Constraint;
 pub use error::{BothError, IndexError, RelField};

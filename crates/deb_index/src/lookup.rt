@@ -1,19 +1,22 @@
 //! What the packages that meet an atom are looked up in.
-ghost use Rattle.std.specs.Prelude.{◌≡◌, ◌<◌, ◌≤◌, ◌&&◌, ◌==◌, ℕ, IfOk, OnOk, length, map, sum_by};
+ghost use Rattle.std.specs.Prelude.{◌≡◌, ◌<◌, ◌≤◌, ◌&&◌, ◌||◌, ◌==◌, ℕ, Bool, false, List, IfOk, OnOk, length, map, sum_by};
 ghost use Rattle.std.specs.List.{list_any};
 ghost use Rattle.std.specs.List.Sorted.{IsStrictlyIncreasing};
 ghost use Rattle.deb_relation.specs.Relationship.{atom_view};
 ghost use Rattle.deb_index.specs.Packages.{is_in, package_at, package_view};
-ghost use Rattle.deb_index.specs.Rows.{Adds, IsFound, meets_as_at, provides_as_at, satisfiers_as};
+ghost use Rattle.std.specs.Option.{option_map, option_map_or};
+ghost use Rattle.deb_index.specs.Rows.{Adds, AreCandidates, AreOffers, is_offer, meets_as_at, provided_version_at, provides_as_at, usable_as_at, version_at};
 ghost use Rattle.deb_index.specs.Rows as spec;
 ghost use Rattle.deb_index.specs.Tables.{asked_count, asked_limit};
 
 use crate::catalog::Catalog;
 use crate::meets::{Role, provided_meets};
-use crate::names::Names;
+use crate::names::{Candidates, Names};
 use crate::package::Package;
-use deb_relation::Atom;
-use std::alloc::AllocError;
+use crate::versions::Offer;
+use deb_relation::{Atom, Version};
+use number_sets::sort_once;
+use std::alloc::{AllocError, Global};
 use std::marker::Model;
 
 /// Packages by place, an architecture, and the names that they have or provide for it. Contracts see an index that has these alone.
@@ -87,43 +90,101 @@ impl<'a> Lookup<'a> {
         }
     }
 
-    /// Finds the places that meet one of some atoms in their role, rising, each once; they take the place of what the list held. Where there
-    /// are more than so many, the list has more, too, but some are left out.
-    // Sorted once, in the end: to put each atom's places among those before would be quadratic in a long group.
-    pub(crate) fn find(
-        &self,
-        role: Role,
-        asked: &[Atom],
-        most: usize,
-        found: &mut Vec<u32>,
-    ) -> Result<(), AllocError>
-        ensures { OnOk result (IsFound most (satisfiers_as role self.now (map atom_view asked.now)) found.new.items) }
+    /// Whether there is a package at a place, and it may stand for an atom in its role, where it meets its name and bound.
+    fn usable_as(&self, role: Role, place: u32, atom: &Atom) -> bool
+        ensures { result ≡ usable_as_at role self.now place (atom_view atom.now) }
     {
-        found.clear();
-        for atom in asked {
-            if !self.add_found(role, atom, most, found)? {
-                return Ok(());
-            }
+        match self.packages.get(place as usize) {
+            Some(asked) => usable_as(role, self.arch, asked, atom),
+            None => false,
         }
-        put_in_order(found);
-        Ok(())
     }
 
-    /// Adds the places that meet an atom, in any order, and some twice. `false` where some are left out, since there are more than so many.
-    fn add_found(
+    /// Where a name is found.
+    pub(crate) fn candidates(&self, name: &[u8]) -> Candidates<'a>
+        ensures { AreCandidates self.now name.now result }
+    {
+        self.names.candidates(name)
+    }
+
+    /// The version of the package at a place.
+    fn version(&self, place: u32) -> Option<&'a Version>
+        ensures { option_map (λ v. v.now) result ≡ version_at self.now place }
+    {
+        let package = self.packages.get(place as usize)?;
+        Some(&package.version)
+    }
+
+    /// The version that such an entry provides.
+    fn provided_version(&self, entry: (u32, u32)) -> Option<&'a Version>
+        ensures { option_map (λ v. v.now) result ≡ provided_version_at self.now entry }
+    {
+        let provider = self.packages.get(entry.0 as usize)?;
+        let provided = provider.provides.get(entry.1 as usize)?;
+        let bound = provided.bound.as_ref()?;
+        Some(&bound.1)
+    }
+
+    /// All versions of a name whose candidates these are, in any order. What is provided without a version is within no bound, and left out.
+    pub(crate) fn offers(
+        &self,
+        alloc: Global,
+        candidates: Candidates<'a>,
+    ) -> Result<Vec<Offer<'a>>, AllocError>
+        ensures { IfOk result (λ v. (name : List ℕ) → AreCandidates self.now name candidates.entry → AreOffers self.now name v.items) }
+    {
+        let mut offers = Vec::new(alloc);
+        for place in candidates.named {
+            push_offer(&mut offers, self.version(*place), *place)?;
+        }
+        for entry in candidates.provided {
+            push_offer(&mut offers, self.provided_version(*entry), entry.0)?;
+        }
+        Ok(offers)
+    }
+
+    /// Adds the places of the candidates of an atom's name that meet the atom, in any order, and some twice. `false` where some are left out, since
+    /// there are more than so many.
+    pub(crate) fn add_candidates(
         &self,
         role: Role,
         atom: &Atom,
+        candidates: Candidates,
         most: usize,
         found: &mut Vec<u32>,
     ) -> Result<bool, AllocError>
+        requires { AreCandidates self.now (atom_view atom.now).name candidates }
         ensures { IfOk result (Adds most (λ q. meets_as_at role self.now q (atom_view atom.now)) found.old.items found.new.items) }
     {
-        let candidates = self.names.candidates(atom.name.as_slice());
         if !self.add_named(role, atom, candidates.named, most, found)? {
             return Ok(false);
         }
         self.add_providers(role, atom, candidates.provided, most, found)
+    }
+
+    /// The same for those that may stand for the atom, by all versions of its name that are within its bound.
+    pub(crate) fn add_offers(
+        &self,
+        role: Role,
+        atom: &Atom,
+        offers: &[Offer],
+        most: usize,
+        found: &mut Vec<u32>,
+    ) -> Result<bool, AllocError>
+        ensures { IfOk result (Adds most (λ q. list_any (λ o. o.place == q && usable_as_at role self.now o.place (atom_view atom.now)) offers.now)
+            found.old.items found.new.items) }
+    {
+        for offer in offers {
+            if !add_if(
+                self.usable_as(role, offer.place, atom),
+                offer.place,
+                most,
+                found,
+            )? {
+                return Ok(false);
+            }
+        }
+        Ok(true)
     }
 
     /// The same for those of some places where the package meets an atom.
@@ -167,6 +228,21 @@ impl<'a> Lookup<'a> {
     }
 }
 
+/// Adds a version with its place, if there is one.
+fn push_offer<'a>(
+    offers: &mut Vec<Offer<'a>>,
+    version: Option<&'a Version>,
+    place: u32,
+) -> Result<(), AllocError>
+    ensures { OnOk result ((q : ℕ) (test : List ℕ → Bool) → list_any (is_offer q test) offers.new.items
+        ≡ (list_any (is_offer q test) offers.old.items || (place == q && option_map_or test (option_map (λ v. v.now) version.entry) false))) }
+{
+    if let Some(version) = version {
+        offers.push(Offer { version, place })?;
+    }
+    Ok(())
+}
+
 /// Adds a place if it is wanted. `false` where there are more than so many now, also without those that came again.
 fn add_if(
     is_wanted: bool,
@@ -184,7 +260,7 @@ fn add_if(
     if found.len() / 2 <= most {
         return Ok(true);
     }
-    put_in_order(found);
+    sort_once(found);
     Ok(found.len() <= most)
 }
 
@@ -198,13 +274,4 @@ fn usable_as(role: Role, arch: &[u8], provider: &Package, atom: &Atom) -> bool
         }
         Role::Entry => atom.usable(arch),
     }
-}
-
-/// Sorts numbers, and leaves out those that come again.
-pub(crate) fn put_in_order(found: &mut Vec<u32>)
-    ensures same { (q : ℕ) → is_in found.new.items q ≡ is_in found.old.items q }
-    ensures rising { IsStrictlyIncreasing found.new.items }
-{
-    found.sort_unstable();
-    found.dedup();
 }

@@ -198,3 +198,45 @@ fn rows_of_many_packages(rt: HostRuntime) {
         expect_rows(&rt, crowd);
     }
 }
+
+/// Groups and entries with bounds, of which few versions are within some; one of them is allowed for other architectures.
+const BOUNDED: &str =
+    "Depends: v (<< 3), v (<= 3), v (= 2.5-0), v (>= 299), v (>> 299), v:any (<< 4), v:armhf (<< 3), v (<< 3) | v (>> 299), v (<< 256), v (<< 257)
+Conflicts: v (<< 2), v:any (<< 3), v (>> 300)
+";
+
+/// A package that asks, one that provides a version of the name, and one without, and many versions of the name.
+fn versions(alloc: Global) -> Result<String, AllocError> {
+    let mut out = String::new(alloc);
+    append_asking(&mut out, "asks", BOUNDED)?;
+    append_asking(&mut out, "provides", "Provides: v (= 2.5), v (= 2.05-0)\n")?;
+    append_asking(&mut out, "unversioned", "Provides: v\n")?;
+    for number in 1..301u32 {
+        write!(
+            out,
+            "\nPackage: v\nVersion: {number}\nArchitecture: all\n{}",
+            if number == 3 {
+                "Multi-Arch: allowed\n"
+            } else {
+                ""
+            }
+        )?;
+    }
+    Ok(out)
+}
+
+/// Where a name has many candidates, those within a bound are the same as one by one.
+#[test]
+fn rows_of_many_versions(rt: HostRuntime) {
+    let text = versions(rt.alloc()).expect(&rt, "no memory");
+    expect_shown(
+        &rt,
+        "rows of many versions",
+        Texts::One(text.as_bytes(), true),
+        &[Part::Counts, Part::AnswerRows, Part::HitRows],
+        "packages 303, stanzas 303, skipped 0, duplicates 0
+need 0: [1, 3, 4] | [1, 3, 4, 5] | [1] | [301, 302] | [302] | [5] | [] | [1, 3, 4, 302] | 256 from Some(1) | none
+apart 0: [3] | [1, 3, 4] | []
+",
+    );
+}

@@ -15,7 +15,7 @@ returns-then-len-most c = added-all _ _ _ _ (λ q.
 
 pub returns : goal.returns
 returns c =
-    let counted : c.len-2.result ≡ length c.put_in_order.new.found.items = omega (arith, c.len-2.ensures) in
-    subst (λ n. Adds c.args.most (λ q. eqb c.args.place q && c.args.is_wanted) c.args.found.now.items c.put_in_order.new.found.items (nat_le n c.args.most)) (sym counted) (added-counted _ _ _ _ (λ q.
-    c.put_in_order.ensures.same q ∙ ap (λ l. is_in l q) c.in_ok-push.ensures.items ∙ entry-put c.args.found.now.items c.args.place q c.args.is_wanted c.if-not-is_wanted.false)
-    c.put_in_order.ensures.rising)
+    let counted : c.len-2.result ≡ length c.sort_once.new.numbers.items = omega (arith, c.len-2.ensures) in
+    subst (λ n. Adds c.args.most (λ q. eqb c.args.place q && c.args.is_wanted) c.args.found.now.items c.sort_once.new.numbers.items (nat_le n c.args.most)) (sym counted) (added-counted _ _ _ _ (λ q.
+    c.sort_once.ensures.same q ∙ ap (λ l. is_in l q) c.in_ok-push.ensures.items ∙ entry-put c.args.found.now.items c.args.place q c.args.is_wanted c.if-not-is_wanted.false)
+    c.sort_once.ensures.rising)

@@ -45,5 +45,5 @@ returns c =
     let same = ap length c.deref-package-items.ensures.value in
     let long = ap (λ (w : IndexView). length w.packages) c.self.view_is in
     let all : length v.packages ≤ c.loop-place.place = omega (arith, same, long, length-map c.self.inside.draft.catalog.packages.items package_view) in
-    in-order (is_essential v) (names v) c.put_in_order.new.found.items c.put_in_order.ensures.rising (λ q.
-    c.put_in_order.ensures.same q ∙ c.loop-place.invariant q ∙ ap (λ ps. has_mark v.with_essential (names v) ps q) (take_all c.loop-place.place v.packages all))
+    in-order (is_essential v) (names v) c.sort_once.new.numbers.items c.sort_once.ensures.rising (λ q.
+    c.sort_once.ensures.same q ∙ c.loop-place.invariant q ∙ ap (λ ps. has_mark v.with_essential (names v) ps q) (take_all c.loop-place.place v.packages all))

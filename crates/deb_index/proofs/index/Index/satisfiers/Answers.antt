@@ -11,5 +11,5 @@ pub returns : goal.returns
 returns c =
     let atom = atom_view c.args.atom.now in
     let seen : catalog_view c.self.inside.catalog ≡ c.args.self.now = c.self.view_is in
-    c.in_ok-find.ensures.all (omega arith) ∙ (λ i. satisfiers_as Entry (c.new.ensures i) (map atom_view (c.from_ref.ensures.value i)))
+    c.in_ok-find.ensures.found.all (omega arith) ∙ (λ i. satisfiers_as Entry ((c.new.ensures ∙ c.new-lookup.ensures) i) (map atom_view (c.from_ref.ensures.value i)))
     ∙ ap (λ (index : IndexView). satisfiers_as Entry index (atom ∷ [])) seen ∙ alone c.args.self.now atom
