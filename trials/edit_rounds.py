@@ -266,9 +266,9 @@ class Tries:
         count = lambda edit: -sum(it.function.name == edit.function.name for it in edits)
         found = []
         for edit in sorted(edits, key=count):
-            free = [it for it in found if not any(self.bars(edit.function, other.function) for other in it)]
+            free = next((it for it in found if not any(self.bars(edit.function, other.function) for other in it)), None)
             if free:
-                min(free, key=len).append(edit)
+                free.append(edit)
             else:
                 found.append([edit])
         return found

@@ -6,10 +6,10 @@ ghost use Rattle.deb_index.specs.Packages.{apart_at, aparts_at, need_at, needs_a
 ghost use Rattle.deb_index.specs.Meets.{group_satisfiers, meets_at, meets_need_at, satisfiers};
 ghost use Rattle.deb_index.specs.Rows.{row_limit};
 
-use crate::finder::Finder;
 use crate::index::Index;
 use crate::lookup::Lookup;
 use crate::meets::Role;
+use crate::satisfiers::Satisfiers;
 use deb_relation::Atom;
 use std::alloc::{AllocError, Global};
 use std::slice::from_ref;
@@ -67,7 +67,7 @@ impl Index {
         }
         let alternatives = self.need(place, number);
         let lookup = Lookup::new(&self.catalog);
-        Finder::new(*found.allocator(), &lookup).find(
+        Satisfiers::new(*found.allocator(), &lookup).find(
             Role::Alternative,
             alternatives,
             usize::MAX,
@@ -97,7 +97,7 @@ impl Index {
     {
         let mut found = Vec::new(alloc);
         let lookup = Lookup::new(&self.catalog);
-        Finder::new(alloc, &lookup).find(Role::Entry, from_ref(atom), usize::MAX, &mut found)?;
+        Satisfiers::new(alloc, &lookup).find(Role::Entry, from_ref(atom), usize::MAX, &mut found)?;
         Ok(found)
     }
 }

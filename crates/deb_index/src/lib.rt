@@ -5,7 +5,7 @@
 //! - `limits`: how large an index may be, and what decides on time alone; `error`: why one is refused.
 //! - `package`: one stanza, read as a package; `meets`: what it asks for, and which atoms it meets.
 //! - `name_table`: names with their numbers; `names`: those that packages have or provide, with where each is found.
-//! - `versions`: those of a name, in order; `lookup`: where names are found, and which packages there meet an atom; `finder`: all places that meet
+//! - `versions`: those of a name, in order; `lookup`: where names are found, and which packages there meet an atom; `satisfiers`: all places that meet
 //!   some atoms.
 //! - `memo`: which row an atom got; `role_rows`: the rows of one role while they are made, which `number_sets` keeps; `links`: the row of each group
 //!   and of each entry, made once.
@@ -23,7 +23,6 @@ mod catalog;
 mod constraint;
 mod duplicates;
 mod error;
-mod finder;
 mod index;
 pub mod laws;
 mod limits;
@@ -38,6 +37,7 @@ mod parts;
 mod pieces;
 mod read;
 mod role_rows;
+mod satisfiers;
 mod unlinked;
 mod versions;
 

@@ -4,11 +4,11 @@ ghost use Rattle.deb_relation.specs.Relationship.{atom_view};
 ghost use Rattle.deb_index.specs.Packages.{aparts, needs, package_view};
 ghost use Rattle.deb_index.specs.Tables.{asked_count, asked_limit};
 
-use crate::finder::Finder;
 use crate::lookup::Lookup;
 use crate::meets::Role;
 use crate::memo::{Memo, digest_of};
 use crate::package::Package;
+use crate::satisfiers::Satisfiers;
 use deb_relation::Atom;
 use number_sets::Rows;
 use std::alloc::{AllocError, Global};
@@ -21,7 +21,7 @@ const ROW_LIMIT: usize = 256;
 /// The rows that were asked for in one role so far. Contracts see them with the role, and with the index that they are looked up in.
 #[derive(Drop)]
 pub(crate) struct RoleRows<'t> {
-    finder: Finder<'t>,
+    satisfiers: Satisfiers<'t>,
     role: Role,
     rows: Rows,
     memo: Memo<'t>,
@@ -34,9 +34,9 @@ impl<'t> Model for RoleRows<'t> {
 
     ghost Value = { MadeRows };
 
-    ghost view = { λ r. record { index = r.finder; role = r.role; rows = r.rows } };
+    ghost view = { λ r. record { index = r.satisfiers; role = r.role; rows = r.rows } };
 
-    ghost invariant = { λ r. AreMet r.finder r.role r.rows r.memo };
+    ghost invariant = { λ r. AreMet r.satisfiers r.role r.rows r.memo };
 }
 
 impl<'t> RoleRows<'t> {
@@ -54,7 +54,7 @@ impl<'t> RoleRows<'t> {
     {
         let memo = Memo::new(alloc, packages)?;
         Ok(RoleRows {
-            finder: Finder::new(alloc, lookup),
+            satisfiers: Satisfiers::new(alloc, lookup),
             role,
             rows: Rows::new(alloc),
             memo,
@@ -119,7 +119,7 @@ impl<'t> RoleRows<'t> {
         ensures role { self.new.role ≡ self.old.role }
         ensures row { OnOk result (self.new.rows ≡ self.old.rows ++ row_as self.old.role self.old.index (map atom_view asked.now) ∷ []) }
     {
-        self.finder
+        self.satisfiers
             .find(self.role, asked, ROW_LIMIT, &mut self.found)?;
         if self.found.len() > ROW_LIMIT {
             return self.rows.push(None);

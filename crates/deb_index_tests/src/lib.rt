@@ -3,7 +3,8 @@
 //! `reading` makes an index of a text, or of a text and a background; `showing` prints what is to be seen of one, which most tests compare with one text, and
 //! `meeting` what meets an atom; `texts` has texts that several tests read. `examples` has worked examples, `satisfiers`, `needs` and `rows` have what meets an
 //! atom, `positions` the places of constraints in their list, `backgrounds` indexes of two texts, `faults` and `limits` what is refused, `side_by_side` texts
-//! that several workers read, `pieces` texts that come in pieces, `growths` a test for each call that can want memory.
+//! that several workers read, `pieces` texts that come in pieces, `growths` a test for each call that can want memory, `written` what
+//! `test_texts` makes.
 #![tactic(auto)]
 
 #[cfg(test)]
@@ -36,3 +37,5 @@ mod showing;
 mod side_by_side;
 #[cfg(test)]
 mod texts;
+#[cfg(test)]
+mod written;

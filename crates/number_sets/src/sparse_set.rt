@@ -1,6 +1,6 @@
 //! A set of numbers, in the order in which they came: a sparse set (Briggs and Torczon, 1993), of which the list alone need be emptied.
 
-ghost use Rattle.std.specs.Prelude.{◌≡◌, ◌⊎◌, ℕ, ◌<◌, ◌≤◌, ◌^◌, List, [], true, false, All, length, slice_get, take, Some, IfSome, IfNone, OnOk};
+ghost use Rattle.std.specs.Prelude.{◌≡◌, ◌⊎◌, ℕ, ◌<◌, ◌≤◌, ◌^◌, List, [], true, false, All, length, slice_get, Some, IfSome, IfNone, OnOk};
 ghost use Rattle.std.specs.List.Sorted.{IsStrictlyIncreasing};
 ghost use Rattle.number_sets.specs.Sets.{members_of, Grows, with_number, IsNumbered};
 
@@ -68,13 +68,6 @@ impl SparseSet {
         ensures { self.new ≡ [] }
     {
         self.numbers.clear();
-    }
-
-    /// Takes out all numbers but the first ones, as many as `count`.
-    pub fn truncate(&mut self, count: usize)
-        ensures { self.new ≡ take count self.old }
-    {
-        self.numbers.truncate(count);
     }
 
     /// The numbers, in the order in which they came.

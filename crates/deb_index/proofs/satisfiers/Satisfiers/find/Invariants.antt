@@ -3,7 +3,7 @@ use Rattle.std.specs.List.{list_any}
 use Rattle.deb_relation.specs.Relationship.{atom_view}
 use Rattle.deb_index.specs.Packages.{is_in}
 use Rattle.deb_index.specs.Rows.{meets_as_at}
-use Rattle.deb_index.proofs.finder.Finder.find.Given as goal
+use Rattle.deb_index.proofs.satisfiers.Satisfiers.find.Given as goal
 
 abbrev pub invariant-loop-atom : goal.invariant-loop-atom
 invariant-loop-atom l =

@@ -15,14 +15,14 @@ use std::marker::Model;
 
 /// What finds them in an index, which is all that contracts see of it.
 #[derive(Drop)]
-pub(crate) struct Finder<'t> {
+pub(crate) struct Satisfiers<'t> {
     alloc: Global,
     lookup: &'t Lookup<'t>,
     /// By the name: the versions of those that were asked for with a bound and have many candidates.
     versions: HashMap<Vec<u8>, Versions<'t>>,
 }
 
-impl<'t> Model for Finder<'t> {
+impl<'t> Model for Satisfiers<'t> {
     ghost use Rattle.deb_index.specs.Packages.{IndexView};
     ghost use Rattle.deb_index.specs.Rows.{AreSorted};
 
@@ -33,11 +33,11 @@ impl<'t> Model for Finder<'t> {
     ghost invariant = { λ f. AreSorted f.lookup.now f.versions };
 }
 
-impl<'t> Finder<'t> {
-    pub(crate) fn new(alloc: Global, lookup: &'t Lookup<'t>) -> Finder<'t>
+impl<'t> Satisfiers<'t> {
+    pub(crate) fn new(alloc: Global, lookup: &'t Lookup<'t>) -> Satisfiers<'t>
         ensures { result ≡ lookup.now }
     {
-        Finder {
+        Satisfiers {
             alloc,
             lookup,
             versions: HashMap::new(alloc),

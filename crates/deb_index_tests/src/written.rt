@@ -1,6 +1,6 @@
-//! What is written shortly, and what it stands for.
+//! What `test_texts` makes of what is written shortly.
 
-use crate::{index_of, report_of};
+use test_texts::{index_of, report_of};
 
 const INDEX: &str = "Package: a
 Version: 1

@@ -6,8 +6,8 @@ use Rattle.deb_relation.specs.Relationship.{atom_view}
 use Rattle.deb_index.specs.Packages.{IndexView}
 use Rattle.deb_index.specs.Rows.{Adds, AreOffers, meets_as_at}
 use Rattle.deb_index.proofs.OfferLemmas.{found-there, offers-meet, usable_of}
-use Rattle.deb_index.proofs.finder.Finder.add_found.Goals as goal
-use Rattle.deb_index.proofs.finder.Finder.add_found.Goals.{in-Some-get, in-None}
+use Rattle.deb_index.proofs.satisfiers.Satisfiers.add_found.Goals as goal
+use Rattle.deb_index.proofs.satisfiers.Satisfiers.add_found.Goals.{in-Some-get, in-None}
 
 pub returns-clause-added : goal.returns-clause-added
 returns-clause-added c =

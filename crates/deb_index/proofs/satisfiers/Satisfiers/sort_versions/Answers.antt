@@ -6,7 +6,7 @@ use Rattle.deb_index.specs.Packages.{IndexView}
 use Rattle.deb_index.specs.Rows.{AreCandidates, AreOffers}
 use Rattle.deb_index.proofs.NumberedLemmas.{updates-names}
 use Rattle.deb_index.proofs.OfferLemmas.{offers-moved, put-sorted}
-use Rattle.deb_index.proofs.finder.Finder.sort_versions.Goals as goal
+use Rattle.deb_index.proofs.satisfiers.Satisfiers.sort_versions.Goals as goal
 
 pub invariant_of-self-2 : goal.invariant_of-self-2
 invariant_of-self-2 c = λ q.

@@ -5,7 +5,7 @@ use Rattle.deb_index.specs.Rows.{meets_as, meets_as_at}
 use Rattle.std.specs.List.{list_any}
 use Rattle.std.proofs.lemmas.List.{take_all}
 use Rattle.deb_index.proofs.FoundLemmas.{among-few, asked-at, atom-more, atoms-taken, found-all, found-some, in-order}
-use Rattle.deb_index.proofs.finder.Finder.find.Goals as goal
+use Rattle.deb_index.proofs.satisfiers.Satisfiers.find.Goals as goal
 
 pub loop-atom-init : goal.loop-atom-init
 loop-atom-init c = (refl, λ q. ap (λ l. is_in l q) c.clear.ensures.items)
