@@ -39,7 +39,8 @@ impl Encoder<'_> {
     {
         for other in row {
             if *other != place {
-                self.add_if(place, &[*other], false)?;
+                // (most others are not in play, which is seen at once)
+                self.add_if(*other, &[place], false)?;
             }
         }
         Ok(())

@@ -14,7 +14,7 @@ loop-other-preserved c =
       | then-other-place+in_ok-add_if w ↦
           rw w.self-is
           (each_more _ c.args.row.now c.loop-other.other-index _ c.args.self.now c.loop-other.self w.add_if.new.self c.loop-other-test.true refl c.loop-other.invariant
-          (tells_as _ _ c.loop-other.self w.add_if.new.self (λ vars. (λ holds has also. absurd (pairs_out _ _ has also holds), λ one. pairs_held _ _ (λ has also. w.if-other-place.true (one has also)))) w.in_ok-add_if.ensures))
+          (tells_as _ _ c.loop-other.self w.add_if.new.self (λ vars. (λ holds has also. absurd (pairs_out _ _ also has holds), λ one. pairs_held _ _ (λ also has. w.if-other-place.true (one has also)))) w.in_ok-add_if.ensures))
       | else-other-place w ↦
           rw w.self-is
           (each_more _ c.args.row.now c.loop-other.other-index _ c.args.self.now c.loop-other.self c.loop-other.self c.loop-other-test.true refl c.loop-other.invariant
