@@ -2,7 +2,7 @@
 //!
 //! `counted` has a writer of std's kind that counts, `tally` a gate that counts, `cases` what a run is set to and comes to. `written_lines` writes the
 //! lines of faults, `statuses` has their statuses, `runs` small runs, `since_runs` those since an earlier index, `meetings` those in which two workers
-//! have to meet, `growths` a test for each call that can want memory.
+//! have to meet, `growths` a test for each call that can want memory. `hints` has what is guessed of inputs and runs.
 #![tactic(auto)]
 
 #[cfg(test)]
@@ -11,6 +11,8 @@ mod cases;
 mod counted;
 #[cfg(test)]
 mod growths;
+#[cfg(test)]
+mod hints;
 #[cfg(test)]
 mod meetings;
 #[cfg(test)]

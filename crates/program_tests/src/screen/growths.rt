@@ -1,6 +1,6 @@
 //! A whole program that can want memory; trials/growths runs it with each growth refused in turn.
 
-use crate::runs::{Left, ONE_BY_ONE, run_line};
+use crate::screen::runs::{Left, ONE_BY_ONE, run_line};
 use debcheck::OpenFault;
 use std::process::Abort;
 use std::test::Fail;

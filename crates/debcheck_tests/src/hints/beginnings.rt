@@ -1,6 +1,6 @@
 //! The first bytes of inputs, and what they tell.
 
-use crate::text::expect_text;
+use crate::hints::text::expect_text;
 use deb_input::{Input, beginning_text};
 
 /// How inputs begin, and what is told of an index that does.

@@ -1,18 +1,11 @@
-//! Tests of what a screen shows.
+//! What a screen shows.
 //!
 //! `line` has the line that tells how far a run has come, by itself. `runs` runs whole programs, on devices over memory and a screen: `progress` looks at
 //! the line during a run, `hints` at the lines after it, of which `inputs` has the texts; in `growths` a program wants memory.
-#![tactic(auto)]
 
-#[cfg(test)]
 mod growths;
-#[cfg(test)]
 mod hints;
-#[cfg(test)]
 mod inputs;
-#[cfg(test)]
 mod line;
-#[cfg(test)]
 mod progress;
-#[cfg(test)]
 mod runs;

@@ -1,6 +1,6 @@
 //! What runs and their faults tell.
 
-use crate::text::expect_text;
+use crate::hints::text::expect_text;
 use deb_input::{Input, RunFault, Slip};
 use deb_report::Summary;
 use debcheck::{fault_text, file_text, summary_text};

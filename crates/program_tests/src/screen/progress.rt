@@ -2,8 +2,8 @@
 
 ghost use Rattle.std.specs.Prelude.{◌≡◌, false};
 
-use crate::line::READING;
-use crate::runs::{Left, ONE_BY_ONE, run_line};
+use crate::screen::line::READING;
+use crate::screen::runs::{Left, ONE_BY_ONE, run_line};
 use debcheck::{OpenFault, Recording};
 use std::process::Abort;
 use std::thread::Threads;

@@ -1,6 +1,6 @@
 //! What indexes tell that are refused, or are of another architecture.
 
-use crate::text::expect_text;
+use crate::hints::text::expect_text;
 use deb_index::{Index, IndexError};
 use deb_input::{Input, elsewhere_text, name_text, stanza_text};
 use run_settings::Config;

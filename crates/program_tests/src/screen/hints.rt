@@ -1,8 +1,8 @@
 //! Hints: which are told on a terminal, and that nothing else is other by them; of texts that come in small pieces, too, and of files that are kept from
 //! being read.
 
-use crate::inputs::{TEXTS, text_called};
-use crate::runs::{Left, run_line};
+use crate::screen::inputs::{TEXTS, text_called};
+use crate::screen::runs::{Left, run_line};
 use debcheck::{OpenFault, Recording};
 use std::io::ErrorKind;
 use std::process::Abort;
