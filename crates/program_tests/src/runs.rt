@@ -19,7 +19,8 @@ pub struct Left {
     pub errors: Held,
 }
 
-fn words_of_line(alloc: Global, line: &str) -> Result<Vec<String>, LineFault> {
+/// The words of a line, as `main` hands them to a program.
+pub(crate) fn words_of_line(alloc: Global, line: &str) -> Result<Vec<String>, LineFault> {
     Ok(words_in(alloc, line)?)
 }
 

@@ -2,12 +2,12 @@
 
 ghost use Rattle.std.specs.Prelude.{◌≡◌, false};
 
-use debcheck::{LineFault, Opener, Source, run_program};
-use std::alloc::Global;
+use crate::runs::words_of_line;
+use debcheck::{Opener, Source, run_program};
 use std::io::IsTerminal;
 use std::thread::Threads;
 use std::time::Clock;
-use test_devices::{Beside, Held, Screen, words_in};
+use test_devices::{Beside, Held, Screen};
 
 /// Words of a program that checks packages one by one.
 pub const ONE_BY_ONE: &str = "|--arch|amd64|--explain|--workers|1|--chunk|1";
@@ -19,10 +19,6 @@ pub struct Left {
     pub output: Held,
     pub errors: Held,
     pub crowded: [u32; 2],
-}
-
-fn words_of_line(alloc: Global, line: &str) -> Result<Vec<String>, LineFault> {
-    Ok(words_in(alloc, line)?)
 }
 
 /// The program under the words of a line.
