@@ -57,6 +57,13 @@ upstream-not_sign b h = grind (arith, nat_tests)
 pub not_sign-parts : (b : ℕ) → is_sign_byte b ≡ false → ((b == less) ≡ false) × ((b == equals) ≡ false) × ((b == greater) ≡ false)
 not_sign-parts b h = (grind (arith, nat_tests), grind (arith, nat_tests), grind (arith, nat_tests))
 
+pub bar-not_white : (b : ℕ) → (b == bar) ≡ true → is_white b ≡ false
+bar-not_white b h = grind (arith, nat_tests)
+
+-- a byte that is neither a comma nor a bar
+pub parts_nothing : (b : ℕ) → (b == comma || b == bar) ≡ false → ((b == comma) ≡ false) × ((b == bar) ≡ false)
+parts_nothing b h = (grind (arith, nat_tests), grind (arith, nat_tests))
+
 -- the bytes that part no relationship
 abbrev pub is_inner_byte : ℕ → Bool
 is_inner_byte b = not (b == comma || b == bar)

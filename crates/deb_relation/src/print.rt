@@ -49,7 +49,10 @@ pub fn push_all<T, P: Print<T>>(
     requires { All (P.fits printer.now) elements.now }
     ensures { OnOk result (out.new.items ≡ out.old.items ++ flat_map (P.text printer.now) elements.now) }
 {
-    push_joined(out, "", printer, elements)
+    for element in elements {
+        printer.print(out, element)?;
+    }
+    Ok(())
 }
 
 /// Adds the texts of elements with commas between, behind what leads to them, where there are some. `AllocError` where there is no memory;

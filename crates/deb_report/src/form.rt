@@ -84,7 +84,10 @@ pub fn push_title(
 {
     out.extend_from_slice(lead_of(format, lead).as_bytes())?;
     match format {
-        Format::Text => push_texts(out, &[title.as_bytes(), b":"])?,
+        Format::Text => {
+            out.extend_from_slice(title.as_bytes())?;
+            out.push(b':')?;
+        }
         Format::Json => push_texts(out, &[b"\"", title.as_bytes(), b"\":"])?,
     }
     Ok(())
@@ -104,7 +107,7 @@ pub fn push_elements<T, P: Print<T>>(
 {
     match format {
         Format::Text => {
-            out.extend_from_slice(b"\n")?;
+            out.push(b'\n')?;
             push_all(out, printer, elements)?;
         }
         Format::Json => {
@@ -234,7 +237,11 @@ impl<'i> Writer<'i> {
     {
         push_title(self.config.format, out, lead, title)?;
         match self.config.format {
-            Format::Text => push_texts(out, &[b" ", text, b"\n"])?,
+            Format::Text => {
+                out.push(b' ')?;
+                out.extend_from_slice(text)?;
+                out.push(b'\n')?;
+            }
             Format::Json => push_quoted(out, text)?,
         }
         Ok(())

@@ -46,8 +46,15 @@ impl<'i> Print<Part<'i>> for InLine {
         match part {
             Part::Kind(kind) => push_texts(out, &[kind, b": "])?,
             Part::Name(name) => out.extend_from_slice(name)?,
-            Part::Package(name, version) => push_texts(out, &[name, b" ", version])?,
-            Part::Field(field) => push_texts(out, &[b" ", field, b": "])?,
+            Part::Package(name, version) => {
+                out.extend_from_slice(name)?;
+                out.push(b' ')?;
+                out.extend_from_slice(version)?;
+            }
+            Part::Field(field) => {
+                out.push(b' ')?;
+                push_texts(out, &[field, b": "])?;
+            }
             Part::Relation(relation) => push_group(out, relation)?,
             Part::Provides(entries) => {
                 out.extend_from_slice(b" (provides ")?;
