@@ -9,8 +9,8 @@ version := $(wildcard crates/$(top)/out/version)
 
 # The crates of the longest chains, first those with the most to prove behind them: they begin first, and all others give way. They are proved by half of the
 # lanes each, and by all where they are mostly alone.
-long := deb_relation deb_control deb_index deb_groundwork deb_encode deb_verdict deb_causes deb_report work_draw debcheck $(top)
-alone := deb_index debcheck $(top)
+long := deb_relation deb_control deb_index sat_solve deb_groundwork deb_encode deb_verdict deb_causes deb_report work_draw debcheck $(top)
+alone := deb_index deb_report debcheck $(top)
 jobs = $(if $(filter $(1),$(alone)),$(lanes),$(if $(filter $(1),$(long)),$$((($(lanes) + 1) / 2)),1))
 
 .ONESHELL:
