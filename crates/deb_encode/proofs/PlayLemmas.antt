@@ -26,7 +26,7 @@ placed_variable forced candidates rising place number out there vars =
     placed_free forced candidates vars place out ∙ (ap (positions_of candidates vars) (sym here) ∙ same_position candidates rising vars number inside)
 
 -- one that is neither is in no set
-placed_out : (forced candidates : List ℕ) (place : ℕ) → members_of forced place ≡ false → members_of candidates place ≡ false → (vars : NumberSet) → placed forced candidates vars place ≡ false
+pub placed_out : (forced candidates : List ℕ) (place : ℕ) → members_of forced place ≡ false → members_of candidates place ≡ false → (vars : NumberSet) → placed forced candidates vars place ≡ false
 placed_out forced candidates place out free vars =
     placed_free forced candidates vars place out
     ∙ false_from_ne_true (positions_of candidates vars place) (λ is_in.

@@ -38,9 +38,10 @@ impl Encoder<'_> {
         ensures { OnOk result (Tells (λ play. KeepsOut place row.now) self.old self.new) }
     {
         for other in row {
-            if *other != place {
-                // (most others are not in play, which is seen at once)
-                self.add_if(*other, &[place], false)?;
+            let play = self.play;
+            // (most others are in no set, which is seen at once)
+            if *other != place && play.may_have(*other) {
+                self.add_if(place, &[*other], false)?;
             }
         }
         Ok(())

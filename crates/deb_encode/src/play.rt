@@ -1,8 +1,8 @@
 //! The places in play, and clauses that hold where one of them is in, or out.
 
-ghost use Rattle.std.specs.Prelude.{◌≡◌, ◌<◌, ◌^◌, true, All, IfOk, length, slice_index};
+ghost use Rattle.std.specs.Prelude.{◌≡◌, ◌<◌, ◌^◌, false, true, All, IfOk, length, slice_index};
 ghost use Rattle.std.specs.List.Sorted.{IsStrictlyIncreasing};
-ghost use Rattle.number_sets.specs.Sets.{MarksOnly};
+ghost use Rattle.number_sets.specs.Sets.{MarksOnly, NumberSet};
 ghost use Rattle.deb_index.specs.Constraints.{IsAlone};
 
 use deb_index::Index;
@@ -27,7 +27,7 @@ pub struct Play<'a> {
 }
 
 impl<'a> Play<'a> {
-    ghost use Rattle.deb_encode.specs.Encoders.{WidensByPlace, WidensBySome, all_places};
+    ghost use Rattle.deb_encode.specs.Encoders.{WidensByPlace, WidensBySome, all_places, set_of};
 
     /// The places in play. Both sets have places of the index, and the candidates rise.
     ///
@@ -55,6 +55,13 @@ impl<'a> Play<'a> {
             candidates,
             alone,
         }
+    }
+
+    /// Whether a set of variables may stand for a set with a place.
+    pub(crate) fn may_have(&self, place: u32) -> bool
+        ensures { result ≡ false → (vars : NumberSet) → set_of self.now vars place ≡ false }
+    {
+        self.forced.contains(place) || self.candidates.contains(place)
     }
 
     /// Makes a clause hold where a place is in, too, or where it is out. `true`: it holds anyway, whatever its literals say.
