@@ -1,5 +1,5 @@
 -- Parts of the constraints of an index: what a set meets of one, what a constraint gives, and what refutes it.
-use Rattle.std.specs.Prelude.{◌≡◌, ℕ, ◌<◌, true, List, Some, length, slice_get}
+use Rattle.std.specs.Prelude.{◌≡◌, ℕ, ◌<◌, true, List, [], Some, length, slice_get}
 use Rattle.deb_index.specs.declared.constraint.Constraint.{Constraint}
 use Rattle.deb_index.specs.declared.constraint.Constraint.TheVariants.{Need, Apart, Only}
 use Rattle.deb_index.specs.Packages.{IndexView, package_at, places_of, names, name_at, needs_at, aparts_at}
@@ -10,14 +10,19 @@ use Rattle.deb_health.specs.Causes.{without}
 use Rattle.deb_health.specs.Health.{AdmitsNone}
 use Rattle.deb_groundwork.specs.declared.part.Part.{Part}
 use Rattle.std.specs.List.{list_any}
+use Rattle.std.specs.Option.{option_map_or}
 
 -- where the set has a place, it has no earlier place of the same name
 abbrev pub HasNoEarlier : IndexView → NumberSet → ℕ → Type 0
 HasNoEarlier index set place = set place ≡ true → (q : ℕ) → q < place → members_of (places_of index (package_at index place).name) q ≡ true → set q ≡ true → ⊥
 
+-- the positions of constraints that are taken out
+abbrev pub taken_out : Part → NumberSet
+taken_out part = members_of (option_map_or (λ out. out.now) part.out [])
+
 -- the positions of a part's constraints
 abbrev pub positions_in : Part → NumberSet
-positions_in part = without (members_of part.out.now) (left (members_of part.kept.now) part.rest)
+positions_in part = without (taken_out part) (left (members_of part.kept.now) part.rest)
 
 -- no set with p meets the part, as constraints at these positions of it show
 abbrev pub IsRefutedBy : List ℕ → Part → ℕ → Type 0

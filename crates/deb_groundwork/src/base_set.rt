@@ -101,7 +101,7 @@ impl BaseSet {
             index,
             kept: &[],
             rest: 0,
-            out: &[],
+            out: None,
         };
         self.meets(&all)
     }

@@ -134,21 +134,15 @@ impl Witness {
         requires place { place < length ground.now.part.index.now.packages }
         requires number { number < length (needs_at ground.now.part.index.now place) }
     {
-        let index = ground.part.index;
-        if !ground.asks_all
-            && index.need_position(place, number) < ground.part.rest
-            && !ground.asks(place, number)
-        {
+        if !ground.asks(place, number) {
             return true;
         }
-        match index.answer_row(place, number) {
-            Some(row) if has_any(&self.on(ground.base), row) || !ground.asks(place, number) => true,
+        match ground.part.index.answer_row(place, number) {
+            Some(row) if has_any(&self.on(ground.base), row) => true,
             Some(row) if row.len() < 2 || !can_wait => {
                 self.take_one(ground, row, Some(Cause { place, number }))
             }
-            None if !can_wait => {
-                !ground.asks(place, number) || self.take_any(ground, place, number)
-            }
+            None if !can_wait => self.take_any(ground, place, number),
             _ => self.open.last() == Some(&place) || self.open.push(place).is_ok(),
         }
     }
@@ -157,7 +151,7 @@ impl Witness {
     fn take_answers(&mut self, ground: &Ground, place: u32, can_wait: bool) -> bool
         requires { place < length ground.now.part.index.now.packages }
     {
-        for number in 0..ground.part.index.need_count(place) {
+        for number in ground.part.first_need(place)..ground.part.index.need_count(place) {
             if !self.take_answer(ground, place, number, can_wait) {
                 return false;
             }

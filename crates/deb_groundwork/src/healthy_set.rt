@@ -44,15 +44,10 @@ fn meets_need<P: Places>(part: &Part<'_>, set: &P, place: u32, number: u32) -> b
     ensures { result ≡ true → MeetsAsked part.now (P.members set.now) (Constraint.Need place number) }
 {
     let index = part.index;
-    let position = index.need_position(place, number);
-    // Few of those before the rest are kept, so this is seen sooner than an answer.
-    if position < part.rest && !part.has(position) {
+    if !part.has(index.need_position(place, number)) {
         return true;
     }
-    if is_answered(index, set, place, number) {
-        return true;
-    }
-    !part.has(position)
+    is_answered(index, set, place, number)
 }
 
 /// Whether an entry of a place hits no other one of the set, where the part asks for it.

@@ -110,7 +110,7 @@ pub fn is_seen_installable(groundwork: &Groundwork<'_>, p: u32, witness: &mut Wi
         index: groundwork.index,
         kept: &[],
         rest: 0,
-        out: &[],
+        out: None,
     };
     is_seen_to_admit(&all, p, &groundwork.base, &groundwork.lacking, witness)
 }

@@ -84,7 +84,7 @@ impl<'a> LargeSet<'a> {
             index: self.index,
             kept: &[],
             rest: essential_count(self.index),
-            out: &[],
+            out: None,
         };
         let ground = Ground {
             part,

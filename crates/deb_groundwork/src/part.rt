@@ -1,10 +1,11 @@
 //! A part of the constraints of an index.
 
-ghost use Rattle.std.specs.Prelude.{◌≡◌};
+ghost use Rattle.std.specs.Prelude.{◌≡◌, ◌<◌, length};
 ghost use Rattle.std.specs.List.Sorted.{IsStrictlyIncreasing};
 ghost use Rattle.number_sets.specs.Sets.{members_of};
 
 use deb_index::Index;
+use number_sets::SparseSet;
 
 /// Some constraints of an index by their positions in the list of all, and all from one position on, without those that are taken out.
 #[derive(Clone, Copy)]
@@ -12,9 +13,8 @@ pub struct Part<'a> {
     pub index: &'a Index,
     pub kept: &'a [u32],
     pub rest: u32,
-    pub out: &'a [u32],
+    pub out: Option<&'a SparseSet>,
     ghost rising: { IsStrictlyIncreasing kept.now },
-    ghost out_rising: { IsStrictlyIncreasing out.now },
 }
 
 /// Whether a rising list has a number.
@@ -26,17 +26,45 @@ pub fn is_among(numbers: &[u32], number: u32) -> bool
 }
 
 impl<'a> Part<'a> {
-    ghost use Rattle.deb_groundwork.specs.Parts.{positions_in};
+    ghost use Rattle.deb_groundwork.specs.Parts.{positions_in, taken_out};
+
+    /// Whether the constraint at a position is taken out.
+    pub fn is_out(&self, position: u32) -> bool
+        ensures { result ≡ taken_out self.now position }
+    {
+        match self.out {
+            Some(out) => out.contains(position),
+            None => false,
+        }
+    }
 
     /// Whether it has the constraint at a position.
     pub fn has(&self, position: u32) -> bool
         ensures { result ≡ positions_in self.now position }
     {
-        (position >= self.rest || is_among(self.kept, position)) && !is_among(self.out, position)
+        (position >= self.rest || is_among(self.kept, position)) && !self.is_out(position)
     }
 
     /// Whether it may lack a constraint.
     pub fn may_lack_one(&self) -> bool {
-        self.rest > 0 || !self.out.is_empty()
+        self.rest > 0 || self.out.is_some_and(|out| !out.as_slice().is_empty())
+    }
+
+    /// The number of the first need of a place that it may have, by what is kept and the rest.
+    pub(crate) fn first_need(&self, place: u32) -> u32
+        requires { place < length self.now.index.now.packages }
+    {
+        if self.rest == 0 || self.index.need_count(place) == 0 {
+            return 0;
+        }
+        let first = self.index.need_position(place, 0);
+        let begins = match self.kept.binary_search(&first) {
+            Ok(_) => first,
+            Err(at) => match self.kept.get(at) {
+                Some(position) => self.rest.min(*position),
+                None => self.rest,
+            },
+        };
+        begins.saturating_sub(first)
     }
 }

@@ -71,7 +71,7 @@ impl Propagation {
     fn visit(&mut self, part: &Part<'_>, base: &BaseSet, place: u32) -> Option<Step>
         requires { place < length part.now.index.now.packages }
     {
-        for number in (0..part.index.need_count(place)).rev() {
+        for number in (part.first_need(place)..part.index.need_count(place)).rev() {
             if !part.has(part.index.need_position(place, number)) {
                 continue;
             }
@@ -116,7 +116,7 @@ impl Propagation {
     /// seen. `false` for want of memory.
     fn begin(&mut self, part: &Part<'_>, base: &BaseSet, p: u32) -> bool {
         let whole = (p, base.members.as_slice().len());
-        if part.rest == 0 && !part.out.is_empty() && self.whole == Some(whole) {
+        if part.rest == 0 && part.may_lack_one() && self.whole == Some(whole) {
             return true;
         }
         self.whole = if part.rest == 0 { Some(whole) } else { None };

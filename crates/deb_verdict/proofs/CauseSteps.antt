@@ -1,13 +1,14 @@
 -- Cores that are found one after the other, each with its cause taken out.
 use Rattle.std.proofs.Common.{◌≡◌, ℕ, zero, suc, ◌+◌, ◌<◌, ◌≤◌, Bool, true, false, ◌&&◌, ◌||◌, eqb, List, [], ◌∷◌, ◌++◌, Global, Option, None, Vec, IfNone, IfSome, length, map, get_or, take, All, Some, slice_get, if◌then◌else◌, refl, sym, subst, ◌∙◌, ap, append_assoc, append-nil, inl, inr, arith}
 use mathlib.Core.Path.{fun_ext}
+use Rattle.std.proofs.Math.Bool.{or-false}
 use Rattle.std.proofs.lemmas.Bool.{cases_Bool, cases_lt, and_parts, eqb-true, or_left, or_right}
 use Rattle.std.proofs.lemmas.List.{map-append, take_more}
 use Rattle.deb_index.specs.declared.constraint.Constraint.{Constraint}
 use Rattle.deb_index.specs.Packages.{IndexView}
 use Rattle.deb_index.specs.Constraints.{constraints_of}
 use Rattle.std.specs.List.Sorted.{IsStrictlyIncreasing}
-use Rattle.number_sets.specs.Sets.{NumberSet, all_of, IsFirst, IsWithin, members_of}
+use Rattle.number_sets.specs.Sets.{NumberSet, all_of, IsFirst, IsWithin, members_of, with_number}
 use Rattle.number_sets.proofs.ListMembers.{members_of_at}
 use Rattle.number_sets.proofs.MembersLemmas.{members_of_push}
 use Rattle.deb_health.specs.Causes.{AreCoresWithout, cause_at, either, is_final_at, IsFirstWithout, nothing, without}
@@ -38,6 +39,21 @@ passed_or false true here final is = refl
 passed_or false false true final is = sym (is refl)
 passed_or false false false final is = refl
 
+members_of_with : (numbers : List ℕ) (added k : ℕ) → members_of (with_number numbers added) k ≡ (members_of numbers k || (eqb added k || false))
+members_of_with numbers added k =
+    let With : Bool → List ℕ = λ has. if has then numbers else (numbers ++ added ∷ []) in
+    elim (cases_Bool (members_of numbers added)) [
+      | inl has ↦
+          ap (λ b. members_of (With b) k) has
+          ∙ elim (cases_Bool (eqb added k)) [
+            | inl here ↦
+                let there : members_of numbers k ≡ true = sym (ap (members_of numbers) (eqb-true added k here)) ∙ has in
+                there ∙ sym (or_left (members_of numbers k) (eqb added k || false) there)
+            | inr other ↦ sym (ap (λ b. members_of numbers k || (b || false)) other ∙ or-false (members_of numbers k))
+          ]
+      | inr lacks ↦ ap (λ b. members_of (With b) k) lacks ∙ members_of_push numbers added k
+    ]
+
 module _ (index : IndexView) (out : NumberSet) (core : List ℕ) (i : ℕ) (inside : i < length core) (k : ℕ) where
   here_final : (final : Bool) → is_final_at index (get_or core i 0) ≡ final → eqb (get_or core i 0) k ≡ true → is_final_at index k ≡ final
   here_final final is here = sym (ap (is_final_at index) (eqb-true (get_or core i 0) k here)) ∙ is
@@ -48,9 +64,9 @@ module _ (index : IndexView) (out : NumberSet) (core : List ℕ) (i : ℕ) (insi
       ∙ ap (λ has. out k || (has && is_final_at index k)) (members_of_push (take i core) (get_or core i 0) k)
 
   pub cause_takes : (before : List ℕ) → is_final_at index (get_or core i 0) ≡ true → members_of before k ≡ either out (cause_at index (take i core)) k
-      → members_of (before ++ get_or core i 0 ∷ []) k ≡ either out (cause_at index (take (i + 1) core)) k
+      → members_of (with_number before (get_or core i 0)) k ≡ either out (cause_at index (take (i + 1) core)) k
   cause_takes before final so_far =
-      members_of_push before (get_or core i 0) k
+      members_of_with before (get_or core i 0) k
       ∙ (ap (λ has. has || (eqb (get_or core i 0) k || false)) so_far
       ∙ (taken_or (out k) (members_of (take i core) k) (eqb (get_or core i 0) k) (is_final_at index k) (here_final true final)
       ∙ sym with_one))

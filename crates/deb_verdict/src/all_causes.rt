@@ -2,7 +2,6 @@
 //! set with the package meets what is left.
 
 ghost use Rattle.std.specs.Prelude.{◌≡◌, ◌<◌, ℕ, All, IfNone, IfOk, IfSome, OnOk, length};
-ghost use Rattle.std.specs.List.Sorted.{IsStrictlyIncreasing};
 ghost use Rattle.std.specs.Option.{ForSome};
 ghost use Rattle.number_sets.specs.Sets.{all_of, members_of};
 ghost use Rattle.deb_index.specs.Constraints.{IsOfIndex, constraints_of};
@@ -20,7 +19,7 @@ use core_extract::first_failing;
 use deb_groundwork::Groundwork;
 use deb_health::{Cores, Told, Wanted};
 use deb_index::{Constraint, Index};
-use number_sets::sort_once;
+use number_sets::SparseSet;
 use std::alloc::{AllocError, Global};
 use std::mem;
 
@@ -40,18 +39,16 @@ fn take_out(
     index: &Index,
     core: &[u32],
     found: &mut Vec<u32>,
-    out: &mut Vec<u32>,
+    out: &mut SparseSet,
 ) -> Result<(), AllocError>
     requires { All (λ k. k < length (constraints_of index.now)) core.now }
-    ensures rising { OnOk result (IsStrictlyIncreasing out.new.items) }
-    ensures taken { OnOk result ((k : ℕ) → members_of out.new.items k ≡ either (members_of out.old.items) (cause_at index.now core.now) k) }
+    ensures { OnOk result ((k : ℕ) → members_of out.new k ≡ either (members_of out.old) (cause_at index.now core.now) k) }
 {
     for position in core {
         if is_final(index, index.constraint_at(*position), found)? {
-            out.push(*position)?;
+            out.insert(*position)?;
         }
     }
-    sort_once(out);
     Ok(())
 }
 
@@ -61,11 +58,10 @@ fn first_positions(
     workspace: &mut Workspace,
     groundwork: &Groundwork<'_>,
     p: u32,
-    out: &[u32],
+    out: &SparseSet,
     formula: &mut Option<CoreFormula>,
 ) -> Result<Option<Vec<u32>>, AllocError>
     requires place { p < length groundwork.now.index.now.packages }
-    requires rising { IsStrictlyIncreasing out.now }
     requires formula { ForSome formula.old (Tells groundwork.now.index.now p) }
     ensures formula { ForSome formula.new (Tells groundwork.now.index.now p) }
     ensures first { IfOk result (λ found. IfSome found (λ core. IsFirstWithout groundwork.now.index.now p (members_of out.now) core.items)) }
@@ -111,15 +107,19 @@ pub(crate) fn cores_in(
     if let Cores::None = wanted.cores {
         return Ok(Told::Broken(cores));
     }
-    let mut out = Vec::new(alloc);
+    let mut out = SparseSet::new(alloc);
+    mem::swap(&mut out, &mut workspace.out);
+    out.clear();
     while let Some(positions) = first_positions(alloc, workspace, groundwork, p, &out, formula)? {
         let mut core = Vec::new(alloc);
         list_constraints(index, &positions, &mut core)?;
         cores.push(core)?;
         if let Cores::First = wanted.cores {
+            mem::swap(&mut out, &mut workspace.out);
             return Ok(Told::Broken(cores));
         }
         take_out(index, &positions, &mut workspace.found, &mut out)?;
     }
+    mem::swap(&mut out, &mut workspace.out);
     Ok(Told::Broken(cores))
 }

@@ -6,7 +6,7 @@ ghost use Rattle.std.specs.List.Sorted.{IsStrictlyIncreasing};
 ghost use Rattle.std.specs.Option.{ForSome};
 ghost use Rattle.number_sets.specs.Sets.{members_of};
 ghost use Rattle.deb_health.specs.Health.{AdmitsNone};
-ghost use Rattle.deb_groundwork.specs.Parts.{positions_in, IsRefutedBy};
+ghost use Rattle.deb_groundwork.specs.Parts.{positions_in, IsRefutedBy, taken_out};
 ghost use Rattle.deb_verdict.specs.Formulas.{IsChosen, Tells, AreKnown, AreNeeded};
 
 use crate::core_formula::CoreFormula;
@@ -105,11 +105,10 @@ fn is_next(numbers: &[u32], number: u32, at: &mut usize) -> bool
 }
 
 /// Whether a part has the constraint at a position, where positions are asked for in rising order.
-fn has_next(part: &Part<'_>, position: u32, kept: &mut usize, out: &mut usize) -> bool
+fn has_next(part: &Part<'_>, position: u32, kept: &mut usize) -> bool
     ensures { result ≡ positions_in part.now position }
 {
-    (position >= part.rest || is_next(part.kept, position, kept))
-        && !is_next(part.out, position, out)
+    (position >= part.rest || is_next(part.kept, position, kept)) && !part.is_out(position)
 }
 
 /// Marks the positions that a part has.
@@ -117,9 +116,9 @@ fn mark_kept(part: &Part<'_>, positions: &[u32], keep: &mut Vec<bool>) -> Result
     ensures { OnOk result (keep.new.items ≡ map (positions_in part.now) positions.now) }
 {
     keep.clear();
-    let (mut kept, mut out) = (0, 0);
+    let mut kept = 0;
     for position in positions {
-        keep.push(has_next(part, *position, &mut kept, &mut out))?;
+        keep.push(has_next(part, *position, &mut kept))?;
     }
     Ok(())
 }
@@ -211,8 +210,8 @@ pub(crate) fn learn(
     workspace: &mut Workspace,
 ) -> Result<(), AllocError>
     requires formula { ForSome formula.now (Tells part.now.index.now p) }
-    requires known { AreKnown part.now.index.now p (members_of part.now.out.now) known.old }
-    ensures { AreKnown part.now.index.now p (members_of part.now.out.now) known.new }
+    requires known { AreKnown part.now.index.now p (taken_out part.now) known.old }
+    ensures { AreKnown part.now.index.now p (taken_out part.now) known.new }
 {
     let Some(described) = formula else {
         return Ok(());

@@ -16,7 +16,7 @@ use crate::limits::MANY;
 use crate::workspace::Workspace;
 use core_extract::{Question, next_of};
 use deb_groundwork::{Groundwork, Part, is_seen_to_admit, refute_by_forcing};
-use number_sets::sort_once;
+use number_sets::{SparseSet, sort_once};
 use std::alloc::{AllocError, Global};
 use std::mem;
 
@@ -108,7 +108,7 @@ fn take_rising(found: &mut Vec<u32>, used: &mut Vec<u32>)
 pub(crate) struct Blocking<'a> {
     pub(crate) groundwork: &'a Groundwork<'a>,
     pub(crate) p: u32,
-    pub(crate) out: &'a [u32],
+    pub(crate) out: &'a SparseSet,
     /// What is known to be needed.
     pub(crate) known: Known,
     /// How many questions were asked.
@@ -119,7 +119,6 @@ pub(crate) struct Blocking<'a> {
     /// The package's formula, once a question needed it.
     pub(crate) formula: Option<CoreFormula>,
     ghost place: { p < length groundwork.now.index.now.packages },
-    ghost rising: { IsStrictlyIncreasing out.now },
     ghost is_known: { AreKnown groundwork.now.index.now p (members_of out.now) known },
     ghost used_rising: { IsStrictlyIncreasing used.items },
     ghost told: { ForSome formula (Tells groundwork.now.index.now p) },
@@ -152,7 +151,7 @@ impl<'a> Question for Blocking<'a> {
             index,
             kept,
             rest,
-            out: self.out,
+            out: Some(self.out),
         };
         self.workspace.alone = is_for_formula(&self.formula, &self.used, self.asked);
         let refuted = refute_part(
@@ -172,7 +171,7 @@ impl<'a> Question for Blocking<'a> {
                 index,
                 kept,
                 rest: last,
-                out: self.out,
+                out: Some(self.out),
             };
             learn(
                 alloc,

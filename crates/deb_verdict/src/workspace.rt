@@ -40,6 +40,8 @@ pub struct Workspace {
     pub(crate) needed: Vec<u32>,
     /// The positions of the constraints that the last refutation used.
     pub(crate) used: Vec<u32>,
+    /// The positions of those that earlier causes have.
+    pub(crate) out: SparseSet,
 }
 
 impl Workspace {
@@ -65,6 +67,7 @@ impl Workspace {
             rotation: sat_solve::Rotation::new(alloc),
             needed: Vec::new(alloc),
             used: Vec::new(alloc),
+            out: SparseSet::new(alloc),
         })
     }
 }

@@ -12,18 +12,13 @@ use Rattle.deb_health.specs.Health.{Admits}
 use Rattle.deb_verdict.proofs.CauseSteps.{all_told, fewer_left, one_found}
 use Rattle.deb_verdict.proofs.all_causes.cores_in.Goals as goal
 
-pub first_positions-requires-clause-rising : goal.first_positions-requires-clause-rising
-first_positions-requires-clause-rising c =
-    let Rising : List ℕ → Type 0 = λ list. IsStrictlyIncreasing list in
-    subst Rising (sym c.deref.ensures.value) c.loop-out.invariant.rising
-
 pub take_out-requires : goal.take_out-requires
 take_out-requires c =
-    below_moved c.deref-in-Some-2.result.now c.in-Some.positions.items _ _ c.deref-in-Some-2.ensures.value refl (rw c.in-Some.is at c.in_ok-positions.ensures.within)
+    below_moved c.deref-in-Some.result.now c.in-Some.positions.items _ _ c.deref-in-Some.ensures.value refl (rw c.in-Some.is at c.in_ok-positions.ensures.within)
 
 pub list_constraints-requires : goal.list_constraints-requires
 list_constraints-requires c =
-    below_moved c.deref-in-Some.result.now c.in-Some.positions.items _ _ c.deref-in-Some.ensures.value refl (rw c.in-Some.is at c.in_ok-positions.ensures.within)
+    below_moved c.deref.result.now c.in-Some.positions.items _ _ c.deref.ensures.value refl (rw c.in-Some.is at c.in_ok-positions.ensures.within)
 
 pub returns-in-First-clause-told : goal.returns-in-First-clause-told
 returns-in-First-clause-told c =
@@ -33,7 +28,7 @@ returns-in-First-clause-told c =
     let First : List ℕ → Type 0 = λ list. IsFirstWithout index c.args.p (members_of list) positions in
     let Stand : List ℕ → Type 0 = λ list. map (slice_get (constraints_of index)) list ≡ map (λ (x : Constraint). Some x) core.items in
     let begins = c.loop-out.invariant.begins c.in-First.is in
-    let first : First [] = subst First (c.deref.ensures.value ∙ begins.0) (rw c.in-Some.is at c.in_ok-positions.ensures.first) in
+    let first : First [] = subst First begins.0 (rw c.in-Some.is at c.in_ok-positions.ensures.first) in
     rw c.in-First.is (
       c.requires.hopeless,
       (
@@ -43,7 +38,7 @@ returns-in-First-clause-told c =
           positions = positions;
           rising = first.rising;
           first = first_of_all index c.args.p (members_of []) positions (λ k. refl) first.first;
-          stand_there = subst Stand c.deref-in-Some.ensures.value c.in_ok-list_constraints.ensures.stand;
+          stand_there = subst Stand c.deref.ensures.value c.in_ok-list_constraints.ensures.stand;
         },
       ),
     )
@@ -58,8 +53,8 @@ pub loop-out-preserved : goal.loop-out-preserved
 loop-out-preserved c =
     let index = c.args.groundwork.now.index.now in
     let p = c.args.p in
-    let out : List ℕ = c.loop-out.out.items in
-    let after : List ℕ = c.take_out.new.out.items in
+    let out : List ℕ = c.loop-out.out in
+    let after : List ℕ = c.take_out.new.out in
     let positions : List ℕ = c.in-Some.positions.items in
     let core : Vec Constraint Global = c.list_constraints.new.constraints in
     let cores : List (Vec Constraint Global) = c.loop-out.cores.items in
@@ -67,11 +62,10 @@ loop-out-preserved c =
     let Stand : List ℕ → Type 0 = λ list. map (slice_get (constraints_of index)) list ≡ map (λ (x : Constraint). Some x) core.items in
     let Taken : List ℕ → Type 0 = λ list. (k : ℕ) → members_of after k ≡ either (members_of out) (cause_at index list) k in
     let lists : Vec Constraint Global → List Constraint = λ one. one.items in
-    let first : First out = subst First c.deref.ensures.value (rw c.in-Some.is at c.in_ok-positions.ensures.first) in
-    let stand : Stand positions = subst Stand c.deref-in-Some.ensures.value c.in_ok-list_constraints.ensures.stand in
-    let taken : Taken positions = subst Taken c.deref-in-Some-2.ensures.value c.in_ok-take_out.ensures.taken in
+    let first : First out = rw c.in-Some.is at c.in_ok-positions.ensures.first in
+    let stand : Stand positions = subst Stand c.deref.ensures.value c.in_ok-list_constraints.ensures.stand in
+    let taken : Taken positions = subst Taken c.deref-in-Some.ensures.value c.in_ok-take_out.ensures in
     record {
-      rising = c.in_ok-take_out.ensures.rising;
       told = c.first_positions.ensures.formula;
       begins = λ is. absurd (c.in_default-cores.not-First is);
       found =
@@ -86,31 +80,28 @@ pub loop-out-smaller : goal.loop-out-smaller
 loop-out-smaller c =
     let index = c.args.groundwork.now.index.now in
     let p = c.args.p in
-    let out : List ℕ = c.loop-out.out.items in
-    let after : List ℕ = c.take_out.new.out.items in
+    let out : List ℕ = c.loop-out.out in
+    let after : List ℕ = c.take_out.new.out in
     let positions : List ℕ = c.in-Some.positions.items in
-    let First : List ℕ → Type 0 = λ list. IsFirstWithout index p (members_of list) positions in
     let Taken : List ℕ → Type 0 = λ list. (k : ℕ) → members_of after k ≡ either (members_of out) (cause_at index list) k in
     fewer_left index p (members_of out) (members_of after) positions
-    (subst First c.deref.ensures.value (rw c.in-Some.is at c.in_ok-positions.ensures.first))
-    (subst Taken c.deref-in-Some-2.ensures.value c.in_ok-take_out.ensures.taken)
+    (rw c.in-Some.is at c.in_ok-positions.ensures.first)
+    (subst Taken c.deref-in-Some.ensures.value c.in_ok-take_out.ensures)
     (rw c.in-Some.is at c.in_ok-positions.ensures.within)
 
 pub returns-clause-told : goal.returns-clause-told
 returns-clause-told c =
     let index = c.args.groundwork.now.index.now in
-    let p = c.args.p in
-    let One : List ℕ → Type 0 = λ list. Admits index p (without (members_of list) all_of) in (
+    let p = c.args.p in (
       c.requires.hopeless,
-      all_told index p c.args.wanted.cores c.loop-out.out.items (map (λ (core : Vec Constraint Global). core.items) c.loop-out.cores.items) c.in_default.not-None (λ is. (c.loop-out.invariant.begins is).0)
-          c.requires.hopeless c.loop-out.invariant.found (subst One c.deref.ensures.value (rw c.in_default-2.is at c.in_ok-positions.ensures.none)),
+      all_told index p c.args.wanted.cores c.loop-out.out (map (λ (core : Vec Constraint Global). core.items) c.loop-out.cores.items) c.in_default.not-None (λ is. (c.loop-out.invariant.begins is).0)
+          c.requires.hopeless c.loop-out.invariant.found (rw c.in_default-2.is at c.in_ok-positions.ensures.none),
     )
 
 pub loop-out-init : goal.loop-out-init
 loop-out-init c =
-    rw (c.new-out.ensures.items, c.new-cores.ensures.items)
+    rw (c.clear.ensures, c.new-cores.ensures.items)
     (record {
-      rising = λ k never. absurd (omega (arith, never));
       told = c.requires.formula;
       begins = λ is. (refl, refl);
       found = record { positions = []; further = λ later are. are; stand_there = refl };

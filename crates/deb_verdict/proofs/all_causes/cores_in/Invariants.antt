@@ -1,5 +1,4 @@
 use Rattle.std.proofs.Common.{◌≡◌, [], Vec, Global, All, length, map}
-use Rattle.std.specs.List.Sorted.{IsStrictlyIncreasing}
 use Rattle.std.specs.Option.{ForSome}
 use Rattle.deb_health.specs.declared.told.Cores.TheVariants as cores_are
 use Rattle.deb_index.specs.declared.constraint.Constraint.{Constraint}
@@ -12,12 +11,11 @@ use Rattle.deb_verdict.proofs.all_causes.cores_in.Given as goal
 abbrev pub invariant-loop-out : goal.invariant-loop-out
 invariant-loop-out l =
     record {
-      rising : IsStrictlyIncreasing l.out.items;
       told : ForSome l.formula (Tells l.index l.p);
-      begins : l.wanted.cores ≡ cores_are.First → (l.out.items ≡ []) × (l.cores.items ≡ []);
-      found : AreFound l.index l.p (members_of l.out.items) (map (λ (core : Vec Constraint Global). core.items) l.cores.items);
+      begins : l.wanted.cores ≡ cores_are.First → (l.out ≡ []) × (l.cores.items ≡ []);
+      found : AreFound l.index l.p (members_of l.out) (map (λ (core : Vec Constraint Global). core.items) l.cores.items);
       within : All (All (IsOfIndex l.index)) (map (λ (core : Vec Constraint Global). core.items) l.cores.items);
     }
 
 abbrev pub decreases-loop-out : goal.decreases-loop-out
-decreases-loop-out l = count_left (members_of l.out.items) (length (constraints_of l.index))
+decreases-loop-out l = count_left (members_of l.out) (length (constraints_of l.index))
