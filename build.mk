@@ -7,11 +7,12 @@ top := debcheck_program
 program := crates/$(top)/out/$(top)
 version := $(wildcard crates/$(top)/out/version)
 
-# The crates of the longest chains, first those with the most to prove behind them: they begin first, and all others give way. They are proved by half of the
-# lanes each, and by all where they are mostly alone.
-long := deb_relation deb_control deb_index sat_solve deb_groundwork deb_encode deb_verdict deb_causes deb_report work_draw debcheck $(top)
-alone := deb_index deb_report debcheck $(top)
-jobs = $(if $(filter $(1),$(alone)),$(lanes),$(if $(filter $(1),$(long)),$$((($(lanes) + 1) / 2)),1))
+# The crates of the longest chains, first those with the most to prove behind them: they begin first, and all others give way. More jobs than one take a third
+# more processor time, so only those have them for which all else would wait.
+long := deb_relation number_sets deb_control deb_index sat_solve deb_health deb_groundwork deb_encode deb_verdict deb_causes deb_report work_draw debcheck $(top)
+wide := deb_relation deb_index deb_report work_draw
+last := debcheck $(top)
+jobs = $(if $(filter $(1),$(last)),$(lanes),$(if $(filter $(1),$(wide)),$$((($(lanes) + 2) / 2)),1))
 
 .ONESHELL:
 .SHELLFLAGS := -euc
