@@ -14,11 +14,12 @@ use std::alloc::{AllocError, Global};
 use std::thread;
 use std::thread::Threads;
 
-/// Draws until no number is left, and makes a piece of each, in the order of the draws and in one workspace.
+/// Draws until no number is left, and makes a piece of each, in the order of the draws.
 fn draw_each<F: Finder>(
     alloc: Global,
     finder: &F,
     board: &Board,
+    workspace: &mut Workspace,
     drawer: &mut Drawer,
     pieces: &mut Vec<Piece<F::Found>>,
 ) -> Result<(), AllocError>
@@ -29,15 +30,14 @@ fn draw_each<F: Finder>(
     ensures refused { GainsButLast drawer.old.numbers pieces.new.items drawer.new.numbers }
     ensures found { Find (F.finds finder.now) pieces.new.items }
 {
-    let mut workspace = Workspace::new(alloc)?;
     while let Some(number) = board.draw(drawer) {
-        let verdicts = finder.find(alloc, &mut workspace, number)?;
+        let verdicts = finder.find(alloc, workspace, number)?;
         pieces.push(Piece { number, verdicts })?;
     }
     Ok(())
 }
 
-/// What each worker of a crew runs: as `draw_pieces`, of what the finder finds.
+/// What each worker of a crew runs: as `draw_pieces`, of what the finder finds, in one workspace.
 fn draw_found<F: Finder>(
     alloc: Global,
     finder: &F,
@@ -53,10 +53,13 @@ fn draw_found<F: Finder>(
     let mut drawn = Drawn {
         drawer,
         pieces: Vec::new(alloc),
-        refused: false,
+        refused: true,
     };
-    let Drawn { drawer, pieces, .. } = &mut drawn;
-    drawn.refused = draw_each(alloc, finder, board, drawer, pieces).is_err();
+    if let Ok(mut workspace) = Workspace::new(alloc) {
+        let Drawn { drawer, pieces, .. } = &mut drawn;
+        drawn.refused = draw_each(alloc, finder, board, &mut workspace, drawer, pieces).is_err();
+        drop(workspace);
+    }
     drawn
 }
 
