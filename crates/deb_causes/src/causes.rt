@@ -1,9 +1,10 @@
 //! The causes of broken packages.
 
-ghost use Rattle.std.specs.Prelude.{◌≡◌, ◌<◌, ◌≤◌, ℕ, All, IfOk, OnOk, count_by, length, map};
+ghost use Rattle.std.specs.Prelude.{◌≡◌, ◌<◌, ◌≤◌, ℕ, [], All, IfOk, OnOk, count_by, length, map};
 ghost use Rattle.deb_index.specs.Constraints.{IsOfIndex};
-ghost use Rattle.deb_causes.specs.Causes.{IsCauseOf, by_count, cause_view, causes_list};
+ghost use Rattle.deb_causes.specs.Causes.{IsCauseOf, by_count, by_first, cause_view, causes_list, cores_of};
 ghost use Rattle.deb_causes.specs.Gathering.{cause_from, part_view};
+ghost use Rattle.deb_causes.specs.Wrongs.{causes_of, said_of};
 ghost use Rattle.deb_health.specs.Verdicts.{IsAskedOf, shown_view};
 
 use crate::cause_of_core::{needs_in, versions_in, wrongs_in};
@@ -57,6 +58,23 @@ fn list_causes(alloc: Global, index: &Index, parts: &[Part]) -> Result<Vec<Cause
     Ok(causes)
 }
 
+/// The causes of broken packages, in the order of their first packages, where nothing is numbered so far.
+fn first_causes(
+    alloc: Global,
+    index: &Index,
+    broken: &[Shown<'_>],
+    wrongs: &mut Wrongs,
+) -> Result<Vec<Cause>, AllocError>
+    requires asked { All (λ one. IsAskedOf index.now (shown_view one)) broken.now }
+    requires said { said_of wrongs.old ≡ [] }
+    requires causes { causes_of wrongs.old ≡ [] }
+    ensures { IfOk result (λ causes. map cause_view causes.items ≡ by_first index.now (map cores_of (map shown_view broken.now))) }
+{
+    let packages = number_packages(alloc, index, broken, wrongs)?;
+    let parts = parts_of(alloc, wrongs.count(), packages.as_slice())?;
+    list_causes(alloc, index, parts.as_slice())
+}
+
 /// Brings causes of more packages to the front.
 fn sort_by_count(causes: &mut Vec<Cause>) -> Result<(), AllocError>
     ensures { OnOk result ((most : ℕ) → All (λ cause. length cause.places.items ≤ most) causes.old.items
@@ -80,9 +98,9 @@ pub fn causes_of(
     ensures within { IfOk result (λ causes. All (λ cause. IsCauseOf index.now (cause_view cause)) causes.items) }
 {
     let mut wrongs = Wrongs::new(alloc);
-    let packages = number_packages(alloc, index, broken, &mut wrongs)?;
-    let parts = parts_of(alloc, wrongs.count(), packages.as_slice())?;
-    let mut causes = list_causes(alloc, index, parts.as_slice())?;
+    let found = first_causes(alloc, index, broken, &mut wrongs);
+    drop(wrongs);
+    let mut causes = found?;
     sort_by_count(&mut causes)?;
     Ok(causes)
 }
