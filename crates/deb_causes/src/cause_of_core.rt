@@ -14,16 +14,17 @@ use indexmap::IndexSet;
 use number_sets::{SparseSet, sort_once};
 use std::alloc::{AllocError, Global};
 
-/// What a core says is wrong: of its final constraints the first of each that say the same.
-pub(crate) fn wrongs_in(
+/// As `wrongs_in`, with a set of what is said, which is empty at first.
+fn wrongs_said(
     alloc: Global,
     index: &Index,
     core: &[Constraint],
+    said: &mut IndexSet<Vec<u32>>,
 ) -> Result<Vec<Constraint>, AllocError>
-    requires { All (IsOfIndex index.now) core.now }
+    requires within { All (IsOfIndex index.now) core.now }
+    requires none { said.old.keys ≡ [] }
     ensures { IfOk result (λ wrongs. wrongs.items ≡ first_of_each (says_same index.now) (cause_in index.now core.now)) }
 {
-    let mut said = IndexSet::new(alloc);
     let mut wrongs = Vec::new(alloc);
     for constraint in core {
         if is_final(alloc, index, *constraint)? {
@@ -34,6 +35,21 @@ pub(crate) fn wrongs_in(
         }
     }
     Ok(wrongs)
+}
+
+/// What a core says is wrong: of its final constraints the first of each that say the same.
+pub(crate) fn wrongs_in(
+    alloc: Global,
+    index: &Index,
+    core: &[Constraint],
+) -> Result<Vec<Constraint>, AllocError>
+    requires { All (IsOfIndex index.now) core.now }
+    ensures { IfOk result (λ wrongs. wrongs.items ≡ first_of_each (says_same index.now) (cause_in index.now core.now)) }
+{
+    let mut said = IndexSet::new(alloc);
+    let wrongs = wrongs_said(alloc, index, core, &mut said);
+    drop(said);
+    wrongs
 }
 
 /// Adds the positions of a core's needs that no package meets.

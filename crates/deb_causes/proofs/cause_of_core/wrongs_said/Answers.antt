@@ -13,12 +13,12 @@ use Rattle.deb_causes.specs.Causes.{says}
 use Rattle.deb_causes.specs.Numbering.{texts_of, with_text}
 use Rattle.deb_causes.proofs.CoreLemmas.{wrong-known, wrong-new}
 use Rattle.deb_causes.proofs.NumberingLemmas.{keys-with}
-use Rattle.deb_causes.proofs.cause_of_core.wrongs_in.Goals as goal
-use Rattle.deb_causes.proofs.cause_of_core.wrongs_in.Goals.{then-branch+in_ok-says_of+in_ok-is_new+then-is_new+in_ok-push, then-branch+in_ok-says_of+in_ok-is_new+else-is_new, else-branch}
+use Rattle.deb_causes.proofs.cause_of_core.wrongs_said.Goals as goal
+use Rattle.deb_causes.proofs.cause_of_core.wrongs_said.Goals.{then-branch+in_ok-says_of+in_ok-is_new+then-is_new+in_ok-push, then-branch+in_ok-says_of+in_ok-is_new+else-is_new, else-branch}
 
 pub loop-constraint-init : goal.loop-constraint-init
 unfolding first_of_each
-loop-constraint-init c = record { said = ap (map (λ text. text.items)) c.new-said.ensures.empty ∙ sym (ap (map (says c.args.index.now)) c.new-wrongs.ensures.items); wrongs = c.new-wrongs.ensures.items }
+loop-constraint-init c = record { said = ap (map (λ text. text.items)) c.requires.none ∙ sym (ap (map (says c.args.index.now)) c.new-wrongs.ensures.items); wrongs = c.new-wrongs.ensures.items }
 
 pub loop-constraint-preserved : goal.loop-constraint-preserved
 loop-constraint-preserved c =
