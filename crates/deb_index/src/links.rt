@@ -1,6 +1,7 @@
 //! The rows of places for the groups and entries of the packages, by place.
-ghost use Rattle.std.specs.Prelude.{◌≡◌, ◌+◌, ◌<◌, ◌^◌, ◌++◌, IfOk, OnOk, map};
+ghost use Rattle.std.specs.Prelude.{◌≡◌, ◌+◌, ◌<◌, ◌^◌, ◌++◌, [], IfOk, OnOk, map};
 ghost use Rattle.std.specs.List.{All};
+ghost use Rattle.deb_index.specs.declared.meets.Role.TheVariants.{Alternative, Entry};
 ghost use Rattle.deb_index.specs.Links.{AreJoined, CanFollow, IsLinked, IsRange, packages_in, start_behind};
 
 use crate::lookup::Lookup;
@@ -31,6 +32,33 @@ fn push_behind(starts: &mut Vec<Start>, end: Start, more: &[Start]) -> Result<()
     Ok(())
 }
 
+/// Adds the rows of the packages in a range of places, and gives where those of each begin.
+fn add_rows<'t>(
+    alloc: Global,
+    lookup: &'t Lookup<'t>,
+    from: u32,
+    to: u32,
+    groups: &mut RoleRows<'t>,
+    entries: &mut RoleRows<'t>,
+) -> Result<Vec<Start>, AllocError>
+    requires range { IsRange lookup.now from to }
+    requires groups { groups.old ≡ record { index = lookup.now; role = Alternative; rows = [] } }
+    requires entries { entries.old ≡ record { index = lookup.now; role = Entry; rows = [] } }
+    ensures { IfOk result (λ s. IsLinked lookup.now (packages_in lookup.now from to) (record { starts = s; groups = groups.new.rows; entries = entries.new.rows })) }
+{
+    let mut starts = Vec::from_slice(alloc, &[Start { group: 0, entry: 0 }])?;
+    for place in from..to {
+        let asking = lookup.package(place);
+        groups.add_groups(asking)?;
+        entries.add_entries(asking)?;
+        starts.push(Start {
+            group: groups.len() as u32,
+            entry: entries.len() as u32,
+        })?;
+    }
+    Ok(starts)
+}
+
 /// The rows of the packages' groups and entries, by place.
 #[derive(Drop)]
 pub(crate) struct Links {
@@ -51,22 +79,16 @@ impl Links {
         requires { IsRange lookup.now from to }
         ensures { IfOk result (λ l. IsLinked lookup.now (packages_in lookup.now from to) l) }
     {
-        let mut starts = Vec::from_slice(alloc, &[Start { group: 0, entry: 0 }])?;
         let mut groups = RoleRows::new(alloc, lookup, Role::Alternative, to - from)?;
         let mut entries = RoleRows::new(alloc, lookup, Role::Entry, to - from)?;
-        for place in from..to {
-            let asking = lookup.package(place);
-            groups.add_groups(asking)?;
-            entries.add_entries(asking)?;
-            starts.push(Start {
-                group: groups.len() as u32,
-                entry: entries.len() as u32,
-            })?;
-        }
+        let starts = add_rows(alloc, lookup, from, to, &mut groups, &mut entries);
+        // What was refused is told once both are given up by a call.
+        let groups = groups.into_rows();
+        let entries = entries.into_rows();
         Ok(Links {
-            starts,
-            groups: groups.into_rows(),
-            entries: entries.into_rows(),
+            starts: starts?,
+            groups,
+            entries,
         })
     }
 

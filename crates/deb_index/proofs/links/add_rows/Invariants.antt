@@ -1,7 +1,7 @@
 use Rattle.std.proofs.Common.{◌≡◌}
 use Rattle.deb_index.specs.declared.meets.Role.TheVariants.{Alternative, Entry}
 use Rattle.deb_index.specs.Links.{IsLinked, packages_in}
-use Rattle.deb_index.proofs.links.Links.of.Given as goal
+use Rattle.deb_index.proofs.links.add_rows.Given as goal
 
 abbrev pub invariant-loop-place : goal.invariant-loop-place
 invariant-loop-place l = record {
