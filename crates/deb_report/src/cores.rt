@@ -23,8 +23,7 @@ impl<'i> Print<Constraint> for Writer<'i> {
         if self.config.why {
             self.push_links(out, *constraint)?;
         }
-        push_one_of(self.config.format, out, "\n", "}")?;
-        Ok(())
+        push_one_of(self.config.format, out, "\n", "}")
     }
 }
 

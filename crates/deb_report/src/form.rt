@@ -133,8 +133,7 @@ pub fn push_list<T, P: Print<T>>(
     ensures { OnOk result (out.new.items ≡ out.old.items ++ list_in format lead title.now (P.text printer.now) elements.now) }
 {
     push_title(format, out, lead, title)?;
-    push_elements(format, out, lead, printer, elements)?;
-    Ok(())
+    push_elements(format, out, lead, printer, elements)
 }
 
 /// Adds elements under a title in a block; lines leave it out where there are none.
@@ -169,8 +168,7 @@ impl<'t, T, P: Print<T>> Print<T> for Titled<'t, P> {
 
     fn print(&self, out: &mut Vec<u8>, element: &T) -> Result<(), AllocError> {
         push_title(Format::Text, out, Lead::Within, self.title)?;
-        self.printer.print(out, element)?;
-        Ok(())
+        self.printer.print(out, element)
     }
 }
 
@@ -279,8 +277,7 @@ impl<'i> Writer<'i> {
         ensures { OnOk result (out.new.items ≡ out.old.items ++ item_in self.now.config.now.format lead (map part_view parts.now)) }
     {
         self.push_front(out, lead, parts)?;
-        push_one_of(self.config.format, out, "\n", "}")?;
-        Ok(())
+        push_one_of(self.config.format, out, "\n", "}")
     }
 
     /// Adds a name alone.

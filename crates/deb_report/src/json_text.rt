@@ -64,6 +64,5 @@ pub(crate) fn push_member(out: &mut Vec<u8>, title: &str, text: &[u8]) -> Result
     ensures { OnOk result (out.new.items ≡ out.old.items ++ member title.now text.now) }
 {
     push_texts(out, &[b"\"", title.as_bytes(), b"\":"])?;
-    push_quoted(out, text)?;
-    Ok(())
+    push_quoted(out, text)
 }

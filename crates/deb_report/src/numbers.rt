@@ -20,8 +20,7 @@ impl<'i> Print<(&'static str, usize)> for Writer<'i> {
     ghost text = { λ writer number. counted_in writer.config.now.format (number_view number) };
 
     fn print(&self, out: &mut Vec<u8>, number: &(&'static str, usize)) -> Result<(), AllocError> {
-        self.push_number(out, Lead::Other, number.0, number.1)?;
-        Ok(())
+        self.push_number(out, Lead::Other, number.0, number.1)
     }
 }
 
@@ -32,8 +31,7 @@ impl<'i, 'b> Print<&'b BrokenPackage> for Writer<'i> {
 
     fn print(&self, out: &mut Vec<u8>, deb: &&'b BrokenPackage) -> Result<(), AllocError> {
         let part = Part::Package(deb.name.as_slice(), deb.version.as_slice());
-        self.push_item(out, Lead::Other, &[part])?;
-        Ok(())
+        self.push_item(out, Lead::Other, &[part])
     }
 }
 
@@ -57,7 +55,6 @@ impl<'i> Print<&'static str> for Writer<'i> {
     ghost text = { λ _ word. quoted word.now };
 
     fn print(&self, out: &mut Vec<u8>, word: &&'static str) -> Result<(), AllocError> {
-        push_quoted(out, word.as_bytes())?;
-        Ok(())
+        push_quoted(out, word.as_bytes())
     }
 }

@@ -111,7 +111,6 @@ impl<'a> Print<&'a Atom> for InJson {
     fn print(&self, out: &mut Vec<u8>, atom: &&'a Atom) -> Result<(), AllocError> {
         let mut text = Vec::new(self.alloc);
         atom.append_to(&mut text)?;
-        push_quoted(out, text.as_slice())?;
-        Ok(())
+        push_quoted(out, text.as_slice())
     }
 }

@@ -141,8 +141,7 @@ impl<'i> Print<Atom> for Writer<'i> {
     fn print(&self, out: &mut Vec<u8>, atom: &Atom) -> Result<(), AllocError> {
         let mut text = Vec::new(self.alloc);
         atom.append_to(&mut text)?;
-        self.push_name(out, text.as_slice())?;
-        Ok(())
+        self.push_name(out, text.as_slice())
     }
 }
 
@@ -152,8 +151,7 @@ impl<'i, 'n> Print<&'n [u8]> for Writer<'i> {
     ghost text = { λ writer name. name_in writer.config.now.format name.now };
 
     fn print(&self, out: &mut Vec<u8>, name: &&'n [u8]) -> Result<(), AllocError> {
-        self.push_name(out, name)?;
-        Ok(())
+        self.push_name(out, name)
     }
 }
 

@@ -78,8 +78,7 @@ fn push_asked<'x>(
 {
     let field = Part::Field(field.as_bytes());
     let relation = Part::Relation(relation);
-    push_all(out, &InLine, &[package_part(deb), field, relation])?;
-    Ok(())
+    push_all(out, &InLine, &[package_part(deb), field, relation])
 }
 
 impl<'m> Print<NearMiss<'m>> for InLine {
@@ -88,8 +87,7 @@ impl<'m> Print<NearMiss<'m>> for InLine {
     ghost text = { λ _ miss. near_text (near_view miss) };
 
     fn print(&self, out: &mut Vec<u8>, miss: &NearMiss<'m>) -> Result<(), AllocError> {
-        push_near(out, miss.deb, &miss.provides)?;
-        Ok(())
+        push_near(out, miss.deb, &miss.provides)
     }
 }
 
