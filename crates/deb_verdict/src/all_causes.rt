@@ -107,6 +107,7 @@ pub(crate) fn cores_in(
     if let Cores::None = wanted.cores {
         return Ok(Told::Broken(cores));
     }
+    // (a set is as long as the list of all constraints, so its room is kept for the next package)
     let mut out = SparseSet::new(alloc);
     mem::swap(&mut out, &mut workspace.out);
     out.clear();
