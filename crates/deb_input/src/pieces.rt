@@ -1,6 +1,6 @@
 //! A text that is read piece by piece: little more of it is held than a piece.
 
-ghost use Rattle.std.specs.Prelude.{◌≡◌, ◌<◌, ◌≤◌, ◌+◌, ◌-◌, [], IfErr, IfOk, OnOk, drop, false, length, true};
+ghost use Rattle.std.specs.Prelude.{◌≡◌, ◌<◌, ◌≤◌, ◌+◌, ◌-◌, IfErr, IfOk, OnOk, drop, false, length, true};
 ghost use Rattle.std.specs.Io.KnownBytes.{IsAtEnd};
 ghost use Rattle.deb_index.specs.Reading.{byte_limit};
 ghost use Rattle.run_settings.specs.Settings.{settings_of};
@@ -97,44 +97,6 @@ fn read_piece<S: Source>(
     Ok(!full)
 }
 
-/// What `read_text` makes of a text; what is held in the end is the piece that was taken last, or the one with the fault.
-fn read_pieces<S: Source, R: Threads + Sync>(
-    rt: &R,
-    alloc: Global,
-    config: &Config,
-    reader: &mut S,
-    piece: usize,
-    held: &mut Held,
-) -> Result<Result<PartialIndex, IndexError>, RunFault>
-    requires piece { 0 < piece }
-    requires none { held.old ≡ [] }
-    ensures held { OnOk result (length held.new ≤ byte_limit) }
-    ensures text { IfOk result (ReadsText (settings_of config.now)
-        (S.remaining reader.old) (S.remaining reader.new) (S.failed reader.old) (S.failed reader.new)) }
-    ensures refused { IfErr result (FailsToRead (S.remaining reader.old) (S.failed reader.old) (S.failed reader.new) byte_limit) }
-    ensures may_fail { IfErr result (λ fault. fault ≡ RunFault.Read → S.may_fail reader.old ≡ true) }
-{
-    let mut front = PartialIndex::new(alloc, config.arch.as_str(), config.essential)?;
-    'pieces: loop {
-        let limit = TEXT_LIMIT - front.size();
-        if read_piece(reader, held, piece, limit)? {
-            let outcome = take_last(rt, alloc, config, front, held.as_slice())?;
-            return Ok(outcome);
-        }
-        match take_piece(rt, alloc, config, front, held.as_slice()) {
-            Ok((next, taken)) => {
-                front = next;
-                held.drop_front(taken);
-            }
-            Err(IndexError::Memory) => return Err(RunFault::Memory),
-            Err(fault) => {
-                skip_rest(alloc, reader, limit - held.len())?;
-                return Ok(Err(fault));
-            }
-        }
-    }
-}
-
 /// Reads all that is left in a reader, a piece of at least so many bytes at a time, each of which is taken into the index by the workers side by side
 /// and given back, for any number of workers (0 count as 1). A few times as many bytes are held, and more only where a long part of the text has no empty
 /// line.
@@ -156,10 +118,28 @@ pub fn read_text<S: Source, R: Threads + Sync>(
     ensures refused { IfErr result (FailsToRead (S.remaining reader.old) (S.failed reader.old) (S.failed reader.new) byte_limit) }
     ensures may_fail { IfErr result (λ fault. fault ≡ RunFault.Read → S.may_fail reader.old ≡ true) }
 {
+    let mut front = PartialIndex::new(alloc, config.arch.as_str(), config.essential)?;
     let mut held = Held::new(alloc);
-    let outcome = read_pieces(rt, alloc, config, reader, piece, &mut held)?;
-    let last = held.into_bytes();
-    Ok(TextRead { outcome, last })
+    'pieces: loop {
+        let limit = TEXT_LIMIT - front.size();
+        if read_piece(reader, &mut held, piece, limit)? {
+            let outcome = take_last(rt, alloc, config, front, held.as_slice())?;
+            let last = held.into_bytes();
+            return Ok(TextRead { outcome, last });
+        }
+        match take_piece(rt, alloc, config, front, held.as_slice()) {
+            Ok((next, taken)) => {
+                front = next;
+                held.drop_front(taken);
+            }
+            Err(IndexError::Memory) => return Err(RunFault::Memory),
+            Err(fault) => {
+                skip_rest(alloc, reader, limit - held.len())?;
+                let (outcome, last) = (Err(fault), held.into_bytes());
+                return Ok(TextRead { outcome, last });
+            }
+        }
+    }
 }
 
 /// The index of a text that was read to its end, and of what stands behind it.

@@ -65,10 +65,7 @@ fn append_cause(out: &mut String, cause: &str) -> Result<(), AllocError> {
 /// Adds the lines of `KEY NUMBER, KEY {ITEM / ITEM}`.
 fn append_ends(out: &mut String, ends: &str) -> Result<(), AllocError> {
     for end in ends.split(", ") {
-        match end.split_once(' ') {
-            Some((key, number)) if !end.contains('{') => write!(out, "{key}: {number}\n")?,
-            _ => append_lists(out, end, "", "")?,
-        }
+        append_lists(out, end, "", "")?;
     }
     Ok(())
 }

@@ -2,7 +2,7 @@ use Rattle.std.proofs.Common.{◌≡◌, ◌+◌, ◌-◌, ◌≤◌, length}
 use Rattle.deb_index.specs.Reading.{byte_limit}
 use Rattle.run_settings.specs.Settings.{settings_of}
 use Rattle.deb_input.specs.Pieces.{ReadsFront}
-use Rattle.deb_input.proofs.pieces.read_pieces.Given as goal
+use Rattle.deb_input.proofs.pieces.read_text.Given as goal
 
 abbrev pub invariant-pieces : goal.invariant-pieces
 invariant-pieces g l = ReadsFront (settings_of l.config) (g.S.Source.remaining l.initial.reader) (g.S.Source.remaining l.reader) l.front l.held
