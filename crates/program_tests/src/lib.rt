@@ -2,7 +2,7 @@
 //!
 //! `runs` runs one, on devices over memory. `programs` runs some, those that tell all causes, of `more_reasons`, and those since an earlier index, of
 //! `since_programs`; `named_programs` runs those whose names stand in a file, `unread_files` those whose files can't be read, `pieces` those whose texts come
-//! in small pieces. `failing_devices` has each device fail in turn; `real_files` opens files of the system. `screen` has what a terminal shows.
+//! in small pieces. `failing_devices` has each device fail in turn, `screen` what a terminal shows.
 #![tactic(auto)]
 
 #[cfg(test)]
@@ -15,8 +15,6 @@ mod named_programs;
 mod pieces;
 #[cfg(test)]
 mod programs;
-#[cfg(test)]
-mod real_files;
 #[cfg(test)]
 mod runs;
 #[cfg(test)]
