@@ -1,5 +1,5 @@
-//! The line of a fault, written to a device, and to a writer of std that fails: how each failure is answered, and in how many calls; and what is
-//! written of words that ask for no run.
+//! The line of a fault, written to a writer of std that fails: how each failure is answered, and in how many calls; and what is written of words
+//! that ask for no run.
 
 use crate::counted::{Counting, writer_of};
 use command_line::LineFault;
@@ -10,29 +10,6 @@ use std::alloc::Global;
 use std::io::ErrorKind;
 use std::process::Abort;
 use test_devices::{Held, sink_of};
-
-/// Whether the line of a fault is written to the sink, and flushed, or the sink fails with this front of the line in it.
-fn writes(alloc: Global, fault: &RunFault, mut sink: Held, fine: bool, wanted: &[u8]) -> bool {
-    let written = write_fault(alloc, &mut sink, fault).is_ok();
-    written == fine && sink.flushed == fine && sink.bytes.as_slice() == wanted
-}
-
-/// How many bytes a sink takes at each write, at which it fails, whether it fails at the flush, whether all goes well, and what it has then.
-const SINKS: [(usize, u32, bool, bool, &[u8]); 4] = [
-    (1, 0, false, true, b"debcheck: out of memory\n"),
-    (1, 5, false, false, b"debc"),
-    (0, 0, false, false, b""),
-    (9, 0, true, false, b"debcheck: out of memory\n"),
-];
-
-#[test]
-fn writes_a_whole_text_or_says_so(rt: HostRuntime) {
-    let alloc = rt.alloc();
-    for (step, fails_at, flush_fails, fine, wanted) in SINKS {
-        let sink = sink_of(alloc, step, fails_at, flush_fails);
-        assert!(rt; writes(alloc, &RunFault::Memory, sink, fine, wanted));
-    }
-}
 
 /// Whether writing a line is fine or not, with so many bytes taken, by so many writes and flushes.
 fn writes_over(

@@ -117,11 +117,3 @@ fn each_crew_finds_all_cores(rt: HostRuntime) {
         }
     }
 }
-
-#[test]
-fn each_number_of_workers_finds_all_cores(rt: HostRuntime) {
-    for workers in 1..=64u32 {
-        let call = Call::Told(workers, CORES, OF_CAUSES);
-        assert!(rt; holds(&rt, CAUSES, MANY, call), "{workers} workers");
-    }
-}

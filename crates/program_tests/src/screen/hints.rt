@@ -185,32 +185,3 @@ fn a_package_is_told_of_a_stanza_in_any_piece(rt: HostRuntime) {
         expect_each(&rt, &files, FOURTH);
     }
 }
-
-#[test]
-fn each_obstacle_is_told(rt: HostRuntime) {
-    let mut files = Cabinet::new(&TEXTS, OpenFault::Unopened);
-    for (obstacle, line) in &OBSTACLES {
-        files.obstacle = *obstacle;
-        expect_each(&rt, &files, *line);
-    }
-}
-
-/// What keeps a file from being opened, and what is told of it.
-static OBSTACLES: [(ErrorKind, &str); 4] = [
-    (
-        ErrorKind::NotFound,
-        "index |--arch|amd64|--bg|gone tells --bg gone: there is no such file",
-    ),
-    (
-        ErrorKind::IsADirectory,
-        "index |--arch|amd64|--bg|gone tells --bg gone: this is a folder",
-    ),
-    (
-        ErrorKind::PermissionDenied,
-        "index |--arch|amd64|--bg|gone tells --bg gone: this file may not be read",
-    ),
-    (
-        ErrorKind::Other,
-        "index |--arch|amd64|--bg|gone tells --bg gone: no file that can be read stands there",
-    ),
-];
