@@ -9,9 +9,9 @@ use crate::base_set::{BaseSet, OnBase};
 use crate::choice::{Ground, choose, is_fit};
 use crate::derivation::has_need;
 use crate::hopeless::is_unanswered;
-use crate::limits::{ALTERNATIVES, BEARERS, WITNESS_TRIES};
+use crate::limits::{ALTERNATIVES, BEARERS, NEWLY_ASKED, WITNESS_TRIES};
 use crate::rows::{essential_count, essential_row, has_any, take_hits};
-use deb_index::Index;
+use deb_index::{Constraint, Index};
 use deb_relation::Atom;
 use number_sets::SparseSet;
 use std::alloc::Global;
@@ -36,6 +36,9 @@ pub struct Witness {
     unfit: SparseSet,
     /// How much came in all, by the weights of packages.
     pub(crate) came: u64,
+    /// The package that it grew for last, and where the rest of the part began. That is 0 once a question about the package took a second try.
+    package: u32,
+    rest: u32,
 }
 
 /// How much a package asks for: itself, its needs and its entries.
@@ -54,6 +57,8 @@ impl Witness {
             open: Vec::new(alloc),
             unfit: SparseSet::new(alloc),
             came: 0,
+            package: 0,
+            rest: u32::MAX,
         }
     }
 
@@ -178,9 +183,9 @@ impl Witness {
         true
     }
 
-    /// Puts in what the places need, as long as places come. Where a need isn't answered, the place that has it.
-    fn take_needs(&mut self, ground: &Ground) -> Option<u32> {
-        let (mut visited, mut chosen) = (0, 0);
+    /// Puts in what the places need, from one of them on, as long as places come. Where a need isn't answered, the place that has it.
+    fn take_needs(&mut self, ground: &Ground, from: usize) -> Option<u32> {
+        let (mut visited, mut chosen) = (from, 0);
         // Each place is gone through twice at most.
         for _ in 0..u64::from(ground.part.index.len()) * 2 {
             let places = self.more.members.as_slice();
@@ -203,6 +208,9 @@ impl Witness {
 
     /// Makes a set of the package at a place and what the part asks for with it. Where something wasn't found, the place that needs it.
     pub(crate) fn grow(&mut self, ground: &Ground, p: u32) -> Option<u32> {
+        let again = self.package == p && self.rest <= ground.part.rest;
+        self.rest = if again { 0 } else { ground.part.rest };
+        self.package = p;
         self.more.clear();
         self.causes.clear();
         self.open.clear();
@@ -212,7 +220,37 @@ impl Witness {
         if !self.take(ground, p, None) || !self.take_essentials(ground) {
             return Some(p);
         }
-        self.take_needs(ground)
+        self.take_needs(ground, 0)
+    }
+
+    /// Makes a set as `grow` does, from the last one for the package and a part whose rest began a little later: by what is newly asked alone.
+    /// `false` where there is none, or what is asked isn't found.
+    pub(crate) fn grow_further(&mut self, ground: &Ground, p: u32) -> bool
+        requires { p < length ground.now.part.index.now.packages }
+    {
+        let part = ground.part;
+        let end = self.rest;
+        if self.package != p
+            || !part.kept.is_empty()
+            || end <= part.rest
+            || end - part.rest > NEWLY_ASKED
+            || end > part.index.only_position(part.index.name_of(p))
+        {
+            return false;
+        }
+        self.rest = part.rest;
+        let visited = self.more.members.as_slice().len();
+        for position in part.rest..end {
+            let Constraint::Need(place, number) = part.index.constraint_at(position) else {
+                continue;
+            };
+            if self.more.members.contains(place)
+                && !self.take_answer(ground, place, number, false)
+            {
+                return false;
+            }
+        }
+        self.take_needs(ground, visited).is_none()
     }
 
     /// What a place came for.

@@ -24,3 +24,6 @@ pub(crate) const LARGE_SETS: u32 = 64;
 
 /// How many sets a witness tries at most: with one alone, bookworm with causes takes 1,723 million instructions for 1,454.
 pub(crate) const WITNESS_TRIES: u32 = 16;
+
+/// At most so many constraints are newly asked of a set that goes on growing. Where they are more, most are of packages that are not in it.
+pub(crate) const NEWLY_ASKED: u32 = 16;

@@ -71,6 +71,12 @@ pub fn is_seen_to_admit(
     if !base.has_room(part.index, p) {
         return false;
     }
+    if witness.grow_further(&ground, p)
+        && place_amiss(part, base, &witness.more.members).is_none()
+        && is_witness(part, p, base, &witness.more.members)
+    {
+        return true;
+    }
     for _ in 0..WITNESS_TRIES {
         let place = match witness.grow(&ground, p) {
             Some(place) => place,

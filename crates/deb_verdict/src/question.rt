@@ -49,7 +49,11 @@ fn refute_part(
     // earlier causes, forcing goes on from where it was.
     let may_admit = part.may_lack_one();
     let goes_on = part.rest == 0;
-    if !goes_on && is_seen_to_admit(part, p, base, lacking, &mut workspace.witness) {
+    if !goes_on && part.kept.is_empty() {
+        if is_seen_to_admit(part, p, base, lacking, &mut workspace.first_witness) {
+            return Ok(false);
+        }
+    } else if !goes_on && is_seen_to_admit(part, p, base, lacking, &mut workspace.witness) {
         return Ok(false);
     }
     if refute_by_forcing(part, p, base, propagation, used) {
@@ -83,10 +87,7 @@ fn next_told(formula: &Option<CoreFormula>, used: &[u32], kept: &[u32], rest: u3
     requires { IsStrictlyIncreasing used.now }
 {
     let last = rest.checked_sub(1)?;
-    let behind = match kept.last() {
-        Some(number) => number.saturating_add(1),
-        None => 0,
-    };
+    let behind = kept.last().map_or(0, |number| number.saturating_add(1));
     if next_of(used, behind) == Some(last) && tells_more(formula, used) {
         Some(last)
     } else {
@@ -147,7 +148,7 @@ impl<'a> Question for Blocking<'a> {
     fn refute(&mut self, alloc: Global, kept: &[u32], rest: u32) -> Result<bool, AllocError> {
         let index = self.groundwork.index;
         let _limit = index.len();
-        let part = Part {
+        let mut part = Part {
             index,
             kept,
             rest,
@@ -167,15 +168,10 @@ impl<'a> Question for Blocking<'a> {
             let Some(last) = next_told(&self.formula, &self.used, kept, rest) else {
                 return Ok(false);
             };
-            let more = Part {
-                index,
-                kept,
-                rest: last,
-                out: Some(self.out),
-            };
+            part.rest = last;
             learn(
                 alloc,
-                &more,
+                &part,
                 self.p,
                 &self.formula,
                 &mut self.known,

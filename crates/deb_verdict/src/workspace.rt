@@ -25,6 +25,8 @@ pub struct Workspace {
     pub(crate) solver: sat_solve::Workspace,
     pub(crate) propagation: Propagation,
     pub(crate) witness: Witness,
+    /// That of questions in which no constraint is kept yet: from one cause to the next it goes on growing.
+    pub(crate) first_witness: Witness,
     /// A base set of nothing.
     pub(crate) nothing: BaseSet,
     /// The constraints that speak of the closure of a broken package.
@@ -58,6 +60,7 @@ impl Workspace {
             solver: sat_solve::Workspace::new(alloc),
             propagation: Propagation::new(alloc),
             witness: Witness::new(alloc),
+            first_witness: Witness::new(alloc),
             nothing: BaseSet::empty(alloc),
             constraints: Vec::new(alloc),
             alone: false,
