@@ -7,7 +7,9 @@ use debcheck::OpenFault;
 use std::process::Abort;
 use std::thread::Threads;
 use std::time::Clock;
-use test_devices::{BACKED_REPORT, BACKGROUND, Cabinet, Feed, Held, INDEX, sink_of, source_of};
+use test_devices::{
+    BACKED_REPORT, BACKGROUND, Cabinet, Feed, Held, INDEX, Screen, sink_of, source_of,
+};
 use test_texts::report_of;
 
 /// The program comes to what the case says, where its background fails behind this front.
@@ -79,7 +81,9 @@ fn written_to(
 {
     let files = [("others", BACKGROUND)];
     let files = Cabinet::new(&files, OpenFault::Unopened);
-    run_line(rt, words, &files, &mut source_of(INDEX, 11), output, errors)
+    let screen = Screen::new(false, b"");
+    let mut reader = source_of(INDEX, 11);
+    run_line(rt, words, &files, &mut reader, &screen, output, errors)
 }
 
 /// What is written to an output, by how many writes and flushes.
@@ -164,63 +168,4 @@ fn each_write_fails_in_turn(rt: HostRuntime) {
         sticks.sticks_at = call;
         expect_written(&rt, words, sticks, &written, 68);
     }
-}
-
-/// At which write, or whether at the flush, an output fails; how many bytes a write to the errors takes, at which it fails, and what it takes before.
-static UNHEARD: [(u32, bool, usize, u32, &[u8]); 3] = [
-    (1, false, 50, 0, UNWRITTEN),
-    (0, true, 50, 0, UNWRITTEN),
-    (1, false, 5, 3, b"debcheck: "),
-];
-
-/// What nobody got has a status.
-fn expect_unheard(rt: &(impl Abort + Clock + Threads + Sync + AllocGlobal), words: &str) {
-    for (fails_at, flush_fails, step, errors_fail_at, told) in &UNHEARD {
-        let output = sink_of(rt.alloc(), 50, *fails_at, *flush_fails);
-        let errors = sink_of(rt.alloc(), *step, *errors_fail_at, false);
-        let left = written_to(rt, words, output, errors);
-        assert!(rt;
-            left.status == 68 && left.errors.bytes.as_slice() == *told,
-            "{words}"
-        );
-    }
-}
-
-#[test]
-fn what_nobody_got_has_a_status(rt: HostRuntime) {
-    for words in ["|--help", "|--version", "|--arch|amd64"] {
-        expect_unheard(&rt, words);
-    }
-}
-
-/// An output that fails since nobody reads it any more: its status is that of a failed write, and no line is told of it.
-fn expect_abandoned(rt: &(impl Abort + Clock + Threads + Sync + AllocGlobal), words: &str) {
-    for (fails_at, flush_fails) in [(1, false), (2, false), (0, true)] {
-        let alloc = rt.alloc();
-        let mut output = sink_of(alloc, 12, fails_at, flush_fails);
-        output.abandoned = true;
-        let left = written_to(rt, words, output, sink_of(alloc, 50, 0, false));
-        assert!(rt; left.status == 68 && left.errors.calls == 0, "{words}");
-    }
-}
-
-#[test]
-fn nothing_is_told_of_an_abandoned_output(rt: HostRuntime) {
-    for words in ["|--help", "|--version", "|--arch|amd64"] {
-        expect_abandoned(&rt, words);
-    }
-}
-
-/// A fault of the index is told, whoever reads the output.
-#[test]
-fn a_fault_is_told_beside_an_abandoned_output(rt: HostRuntime) {
-    let alloc = rt.alloc();
-    let mut output = sink_of(alloc, 12, 1, false);
-    output.abandoned = true;
-    let words = "|--arch|amd64|--checkonly|zz";
-    let left = written_to(&rt, words, output, sink_of(alloc, 50, 0, false));
-    assert!(rt;
-        left.status == 66
-            && left.errors.bytes.as_slice() == b"debcheck: unknown package zz\n".as_slice()
-    );
 }

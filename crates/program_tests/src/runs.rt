@@ -8,42 +8,53 @@ use std::io::IsTerminal;
 use std::process::Abort;
 use std::thread::Threads;
 use std::time::Clock;
-use test_devices::{Cabinet, Feed, Held, Screen, sink_of, source_of, words_in};
+use test_devices::{Beside, Cabinet, Feed, Held, Screen, sink_of, source_of, words_in};
 use test_texts::{index_of, report_of};
 
-/// What a program left.
+/// What a program left, and how often it wrote to its output and to its errors while a line stood on the screen.
 #[derive(Drop)]
 pub struct Left {
     pub status: u8,
     pub output: Held,
     pub errors: Held,
+    crowded: [u32; 2],
+}
+
+impl Left {
+    /// No line stood where anything was written, and no line, nor the end of one, stands there.
+    pub fn is_uncrowded(&self, screen: &Screen<'_>) -> bool {
+        self.crowded == [0, 0] && !screen.stands() && screen.ends_left() == 0
+    }
 }
 
 /// The words of a line, as `main` hands them to a program.
-pub(crate) fn words_of_line(alloc: Global, line: &str) -> Result<Vec<String>, LineFault> {
+fn words_of_line(alloc: Global, line: &str) -> Result<Vec<String>, LineFault> {
     Ok(words_in(alloc, line)?)
 }
 
-/// The program under the words of a line, on a screen that is none.
+/// The program under the words of a line.
 pub fn run_line<O: Opener, S: Source + IsTerminal, R: Clock + Threads + Sync + AllocGlobal>(
     rt: &R,
     line: &str,
     files: &O,
     reader: &mut S,
+    screen: &Screen<'_>,
     output: Held,
-    mut errors: Held,
+    errors: Held,
 ) -> Left
     requires reader { S.failed reader.old ≡ false }
     requires output { output.failed ≡ false }
     requires errors { errors.failed ≡ false }
 {
-    let screen = Screen::new(false, b"");
     let words = words_of_line(rt.alloc(), line);
-    let ended = run_program(rt, words, files, reader, output, &mut errors, &screen);
+    let output = Beside::new(screen, output);
+    let mut errors = Beside::new(screen, errors);
+    let ended = run_program(rt, words, files, reader, output, &mut errors, screen);
     Left {
         status: ended.status,
-        output: ended.output,
-        errors,
+        crowded: [ended.output.crowded, errors.crowded],
+        output: ended.output.held,
+        errors: errors.held,
     }
 }
 
@@ -57,7 +68,7 @@ pub struct Case<'a> {
     pub told: &'a [u8],
 }
 
-/// The program under the words of a line, on sinks that take all.
+/// The program under the words of a line, on sinks that take all and a screen that is none.
 pub fn run_on(
     rt: &(impl Clock + Threads + Sync + AllocGlobal),
     line: &str,
@@ -67,8 +78,9 @@ pub fn run_on(
     requires { reader.old.failed ≡ false }
 {
     let alloc = rt.alloc();
+    let screen = Screen::new(false, b"");
     let (output, errors) = (sink_of(alloc, 50, 0, false), sink_of(alloc, 50, 0, false));
-    run_line(rt, line, files, reader, output, errors)
+    run_line(rt, line, files, reader, &screen, output, errors)
 }
 
 /// A device has this text, and was flushed where there is one.

@@ -14,8 +14,6 @@ pub struct Cabinet<'a> {
     pub torn: bool,
     /// Of what is read so many bytes make a piece.
     pub piece: usize,
-    /// What keeps a file from being opened or read.
-    pub obstacle: ErrorKind,
     asked: AtomicU32,
 }
 
@@ -26,7 +24,6 @@ impl<'a> Cabinet<'a> {
             fault,
             torn: false,
             piece: 4_194_304,
-            obstacle: ErrorKind::NotFound,
             asked: AtomicU32::new(0),
         }
     }
@@ -59,6 +56,6 @@ impl<'a> Opener for Cabinet<'a> {
     }
 
     fn obstacle(&self, _name: &str) -> ErrorKind {
-        self.obstacle
+        ErrorKind::NotFound
     }
 }

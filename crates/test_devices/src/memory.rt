@@ -14,8 +14,6 @@ pub struct Feed<'a> {
     pub fails: bool,
     pub failed: bool,
     pub reads: u32,
-    /// It says that it is a terminal.
-    pub is_typed: bool,
     /// It is read in pieces of so many bytes, but at least one.
     pub piece: usize,
 }
@@ -31,7 +29,6 @@ pub fn source_of(text: &[u8], step: usize) -> Feed<'_>
         fails: false,
         failed: false,
         reads: 0,
-        is_typed: false,
         piece: 4_194_304,
     }
 }
@@ -63,7 +60,7 @@ impl Source for Feed<'_> {
 
 impl IsTerminal for Feed<'_> {
     fn is_terminal(&self) -> bool {
-        self.is_typed
+        false
     }
 }
 

@@ -1,6 +1,7 @@
 //! A whole program that can want memory; trials/growths runs it with each growth refused in turn.
 
-use crate::screen::runs::{Left, ONE_BY_ONE, run_line};
+use crate::runs::{Left, run_line};
+use crate::screen::progress::ONE_BY_ONE;
 use debcheck::OpenFault;
 use std::process::Abort;
 use std::test::Fail;

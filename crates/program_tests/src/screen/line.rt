@@ -134,7 +134,7 @@ fn expect_wiped(rt: &(impl Abort + AllocGlobal), config: &Config) {
 }
 
 /// What is told while the index is read, and where it is typed on a terminal.
-pub static READING: [(bool, &[u8]); 2] = [
+static READING: [(bool, &[u8]); 2] = [
     (false, b"\rreading the index"),
     (
         true,

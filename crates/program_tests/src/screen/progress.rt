@@ -2,42 +2,14 @@
 
 ghost use Rattle.std.specs.Prelude.{◌≡◌, false};
 
-use crate::screen::line::READING;
-use crate::screen::runs::{Left, ONE_BY_ONE, run_line};
-use debcheck::{OpenFault, Recording};
+use crate::runs::{Left, run_line};
+use debcheck::OpenFault;
 use std::process::Abort;
 use std::thread::Threads;
 use test_devices::{CHAIN, Cabinet, Held, Screen, clock_of, sink_of, source_of};
 
-/// Whether a program told once, or never, that its index is read from a file, or from the terminal.
-fn expect_told(
-    rt: &(impl Abort + Threads + Sync + AllocGlobal),
-    line: &[u8],
-    is_typed: bool,
-    lines: u32,
-) {
-    let screen = Screen::new(true, line);
-    let mut reader = source_of(b"Package: a\n", 11);
-    reader.is_typed = is_typed;
-    let left = run_line(
-        &clock_of(rt, 0),
-        "|--arch|amd64",
-        &Cabinet::new(&[], OpenFault::Unopened),
-        &mut Recording::new(reader),
-        &screen,
-        sink_of(rt.alloc(), 50, 0, false),
-        sink_of(rt.alloc(), 50, 0, false),
-    );
-    assert!(rt; left.status == 65 && left.crowded == [0, 0] && screen.lines() == lines);
-}
-
-#[test]
-fn an_index_is_read_from_a_terminal(rt: HostRuntime) {
-    for (is_typed, line) in &READING {
-        expect_told(&rt, *line, *is_typed, 1);
-        expect_told(&rt, *line, !*is_typed, 0);
-    }
-}
+/// Words of a program that checks packages one by one.
+pub const ONE_BY_ONE: &str = "|--arch|amd64|--explain|--workers|1|--chunk|1";
 
 /// A program on three packages, which an earlier index has, too. The clock goes on by more than a second at each look: the line is written before the
 /// first package of a check, and again of each.
