@@ -3,7 +3,7 @@
 ghost use Rattle.std.specs.Prelude.{◌<◌};
 
 use deb_index::{Index, IndexError};
-use deb_input::{RunFault, finish, read_text};
+use deb_input::{Input, RunFault, finish, read_text, reading_text};
 use run_settings::Config;
 use std::alloc::{AllocError, Global};
 use std::process::Abort;
@@ -57,15 +57,20 @@ fn has(index: &Index, packages: &[(&str, &str)], counts: [u32; 3]) -> bool {
         && [index.stanzas(), index.skipped(), index.duplicates()] == counts
 }
 
-/// Words for what reading a text came to.
-fn told_by(outcome: &Result<Index, RunFault>) -> &'static str {
+/// What is told of the text with a fault.
+const HINT: &[u8] = b"stanza 2 of the index is of the package b";
+
+/// Words for what reading a text came to, and what was told of it.
+fn told_by(outcome: &Result<Index, RunFault>, hint: &[u8]) -> &'static str {
     match outcome {
         Ok(index) if has(index, &PACKAGES, [6, 1, 1]) => "the text",
         Ok(index) if has(index, &PACKAGES[..1], [1, 0, 0]) => "one package",
         Ok(_) => "another index",
         Err(RunFault::Memory) => "no memory",
         Err(RunFault::Read) => "failed",
-        Err(RunFault::Index(IndexError::MissingField { stanza: 2 })) => "missing field in stanza 2",
+        Err(RunFault::Index(IndexError::MissingField { stanza: 2 })) if hint == HINT => {
+            "missing field in stanza 2"
+        }
         Err(_) => "another fault",
     }
 }
@@ -81,12 +86,16 @@ pub fn comes_to(
     let Ok(config) = Config::usual(rt.alloc()) else {
         return "no memory";
     };
-    let outcome = match read_text(rt, rt.alloc(), &config, reader, piece) {
-        Ok(read) => finish(rt, rt.alloc(), &config, read.outcome, &[]),
-        Err(fault) => Err(fault),
+    let (outcome, last) = match read_text(rt, rt.alloc(), &config, reader, piece) {
+        Ok(read) => {
+            let outcome = finish(rt, rt.alloc(), &config, read.outcome, &[]);
+            (outcome, read.last)
+        }
+        Err(fault) => (Err(fault), Vec::new(rt.alloc())),
     };
+    let hint = reading_text(rt.alloc(), &config, Input::Index, &outcome, &last, &[]);
     drop(config);
-    let told = told_by(&outcome);
+    let told = told_by(&outcome, &hint.unwrap_or(last));
     drop(outcome);
     told
 }
@@ -131,7 +140,7 @@ fn a_reader_fails_behind_each_byte(rt: HostRuntime) {
 const FAULTY: &[u8] =
     b"Package: a\nVersion: 1\nArchitecture: all\n\nPackage: b\nVersion: 1\n\n x\n\nPackage: c\n";
 
-/// The first fault is told, in whatever piece it stands, once the text was read to its end; that a read failed goes before it.
+/// The first fault is told, and whose stanza has it, in whatever piece that stands, once the text was read to its end; that a read failed goes before it.
 #[test]
 fn the_first_fault_is_told_behind_the_whole_text(rt: HostRuntime) {
     for piece in 1..=FAULTY.len() + 1 {

@@ -2,11 +2,10 @@
 
 ghost use Rattle.std.specs.Prelude.{◌≡◌, ◌<◌, ◌≤◌, IfOk, false};
 
-use deb_index::IndexError;
 use deb_input::RunFault;
 use deb_report::Summary;
 use debcheck::{Job, run, run_since, status};
-use run_settings::{Config, Format, Show};
+use run_settings::{Config, Show};
 use std::alloc::{AllocError, Global};
 use std::process::Abort;
 use std::thread::Threads;
@@ -31,9 +30,6 @@ pub struct Settings {
     pub show: Show,
     pub explain: bool,
     pub all_reasons: bool,
-    pub causes: bool,
-    pub why: bool,
-    pub format: Format,
 }
 
 /// Two workers with chunks of one, else as usual.
@@ -43,9 +39,6 @@ pub const BY_TWO: Settings = Settings {
     show: Show::All,
     explain: true,
     all_reasons: false,
-    causes: false,
-    why: false,
-    format: Format::Text,
 };
 
 /// A run, and what it comes to.
@@ -53,8 +46,6 @@ pub const BY_TWO: Settings = Settings {
 pub struct Case<'a> {
     pub name: &'static str,
     pub settings: Settings,
-    /// The names that are asked; all packages where there is none.
-    pub only: &'static [&'static [u8]],
     pub index: &'a [u8],
     pub background: Option<&'a [u8]>,
     /// The run is since this index, where there is one.
@@ -70,7 +61,7 @@ pub struct Case<'a> {
     /// The report, as `report_of` makes it of lines, of which a writer that fails has the front; nothing is written where there are none.
     pub written: &'a str,
     pub status: u8,
-    /// The name that no package has, or words for a fault of the index.
+    /// Words for a fault of a text.
     pub told: &'static str,
     /// The numbers of a report that was written to its end.
     pub summary: Option<Summary>,
@@ -80,7 +71,6 @@ pub struct Case<'a> {
 pub const EMPTY: Case<'static> = Case {
     name: "no text",
     settings: BY_TWO,
-    only: &[],
     index: b"",
     background: None,
     earlier: None,
@@ -106,18 +96,6 @@ pub const NOTHING: Summary = Summary {
     newly_broken: None,
 };
 
-/// The names as a list, where there are some.
-fn named(alloc: Global, names: &[&[u8]]) -> Result<Option<Vec<Vec<u8>>>, AllocError> {
-    if names.is_empty() {
-        return Ok(None);
-    }
-    let mut list = Vec::new(alloc);
-    for name in names {
-        list.push(Vec::from_slice(alloc, name)?)?;
-    }
-    Ok(Some(list))
-}
-
 /// A name for the background, where there is one.
 fn background_name(alloc: Global, case: &Case<'_>) -> Result<Option<String>, AllocError> {
     match case.background {
@@ -130,10 +108,8 @@ pub fn config_of(alloc: Global, case: &Case<'_>) -> Result<Config, AllocError>
     ensures workers { IfOk result (λ config. (0 < config.workers) × (config.workers ≤ 64)) }
     ensures chunk { IfOk result (λ config. 0 < config.chunk) }
 {
-    let only = named(alloc, case.only)?;
     let bg = background_name(alloc, case)?;
     let mut config = Config::usual(alloc)?;
-    config.only = only;
     config.bg = bg;
     set(&mut config, case.settings);
     Ok(config)
@@ -148,9 +124,6 @@ fn set(config: &mut Config, settings: Settings)
     config.show = settings.show;
     config.explain = settings.explain;
     config.all_reasons = settings.all_reasons;
-    config.causes = settings.causes;
-    config.why = settings.why;
-    config.format = settings.format;
 }
 
 /// A reader that was not read yet.
@@ -197,12 +170,9 @@ pub fn outcome_of(
     (outcome, begun)
 }
 
-/// The name that no package has, or words for a fault of the index; nothing of any other outcome.
-fn told_by(outcome: &Result<Summary, RunFault>) -> &[u8] {
+/// Words for a fault of a text; nothing of any other outcome.
+fn told_by(outcome: &Result<Summary, RunFault>) -> &'static [u8] {
     match outcome {
-        Err(RunFault::UnknownAsked { name }) => name.as_slice(),
-        Err(RunFault::Index(IndexError::BadLine { stanza: 1 })) => b"bad line in stanza 1",
-        Err(RunFault::Index(_)) => b"another fault of the index",
         Err(RunFault::Earlier(_)) => b"a fault of the earlier index",
         Err(RunFault::Read) => b"index",
         Err(RunFault::BackgroundRead) => b"background",
@@ -244,14 +214,13 @@ fn expect_under(
     rt: &(impl Abort + Threads + Sync + AllocGlobal),
     config: &Config,
     case: &Case<'_>,
-    gate: &(impl Gate + Sync),
 ) -> Result<(), AllocError>
     requires workers { (0 < config.now.workers) × (config.now.workers ≤ 64) }
     requires chunk { 0 < config.now.chunk }
 {
     let report = report_in(rt.alloc(), case)?;
     let mut output = sink_with_room(rt.alloc(), case.room, case.fails_at)?;
-    let (outcome, begun) = outcome_of(rt, config, case, gate, &mut output);
+    let (outcome, begun) = outcome_of(rt, config, case, &OpenGate, &mut output);
     if matches!(outcome, Err(RunFault::Memory)) {
         assert!(rt; output.calls == 0 && output.bytes.is_empty() && status(&outcome) == 69);
         return Err(AllocError);
@@ -261,24 +230,15 @@ fn expect_under(
     Ok(())
 }
 
-/// The run comes to what the case says behind a gate, or wants memory with nothing written.
-pub fn expect_behind(
-    rt: &(impl Abort + Threads + Sync + AllocGlobal),
-    case: &Case<'_>,
-    gate: &(impl Gate + Sync),
-) -> Result<(), AllocError> {
-    let config = config_of(rt.alloc(), case)?;
-    let outcome = expect_under(rt, &config, case, gate);
-    drop(config);
-    outcome
-}
-
-/// The same where nothing holds it up.
+/// The run comes to what the case says, or wants memory with nothing written.
 pub fn expect(
     rt: &(impl Abort + Threads + Sync + AllocGlobal),
     case: &Case<'_>,
 ) -> Result<(), AllocError> {
-    expect_behind(rt, case, &OpenGate)
+    let config = config_of(rt.alloc(), case)?;
+    let outcome = expect_under(rt, &config, case);
+    drop(config);
+    outcome
 }
 
 /// The run comes to what the case says.

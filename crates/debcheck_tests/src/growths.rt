@@ -1,15 +1,12 @@
 //! One test for each call that can want memory; trials/growths runs them with each growth of memory refused in turn.
 
-use crate::cases::{BY_TWO, Case, EMPTY, NOTHING, Settings, expect, expect_behind};
-use crate::runs::FRONT;
+use crate::cases::{BY_TWO, Case, EMPTY, NOTHING, Settings, expect};
 use crate::since_runs::{SINCE, SINCE_WITH_ALL_REASONS};
-use crate::tally::Tally;
 use deb_input::RunFault;
 use deb_report::Summary;
 use debcheck::write_fault;
 use std::alloc::{AllocError, Global};
 use std::process::Abort;
-use std::thread::Threads;
 use test_devices::{BACKED_REPORT, BACKGROUND, CHAIN, CHAIN_REPORT, Held, INDEX, sink_with_room};
 
 static NO_TEXT: Case<'static> = EMPTY;
@@ -20,7 +17,13 @@ fn of_run(rt: HostRuntime) -> Result<(), AllocError> {
     expect(&rt, &NO_TEXT)
 }
 
-static FAILING: Case<'static> = FRONT;
+static FAILING: Case<'static> = Case {
+    name: "a failing writer",
+    fails_at: 5,
+    status: 68,
+    summary: None,
+    ..EMPTY
+};
 
 /// The same, and the writer fails at its fifth call.
 #[test]
@@ -90,27 +93,16 @@ static BY_ONE_WORKER: Case<'static> = Case {
     ..COUNTED
 };
 
-/// No chunk begins twice or ends without a beginning, and all three end where there is a report.
-fn expect_counted(
-    rt: &(impl Abort + Threads + Sync + AllocGlobal),
-    case: &Case<'_>,
-) -> Result<(), AllocError> {
-    let tally = Tally::new();
-    let outcome = expect_behind(rt, case, &tally);
-    assert!(rt; tally.has_at_least(u32::from(outcome.is_ok())));
-    outcome
-}
-
 #[test]
 fn of_run_with_one_worker(rt: HostRuntime) -> Result<(), AllocError> {
-    expect_counted(&rt, &BY_ONE_WORKER)
+    expect(&rt, &BY_ONE_WORKER)
 }
 
 static BY_TWO_WORKERS: Case<'static> = COUNTED;
 
 #[test]
 fn of_run_with_two_workers(rt: HostRuntime) -> Result<(), AllocError> {
-    expect_counted(&rt, &BY_TWO_WORKERS)
+    expect(&rt, &BY_TWO_WORKERS)
 }
 
 /// A package that needs one of the background, and a broken one, by two workers.

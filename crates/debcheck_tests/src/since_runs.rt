@@ -2,7 +2,6 @@
 
 use crate::cases::{BY_TWO, Case, EMPTY, NOTHING, Settings, Torn, expect_answer};
 use deb_report::Summary;
-use run_settings::Format;
 use std::process::Abort;
 use std::thread::Threads;
 
@@ -129,108 +128,7 @@ fn readers_fail_behind_each_byte(rt: HostRuntime) {
     }
 }
 
-/// One package that was broken and is still, a newly broken one, each for two reasons, and one that is fine.
-const NEWS: &[u8] = b"Package: a
-Version: 1
-Architecture: all
-Depends: x, y
-
-Package: b
-Version: 1
-Architecture: all
-Depends: y, c (>= 2)
-
-Package: c
-Version: 1
-Architecture: all
-";
-
-const BEFORE: &[u8] = b"Package: a
-Version: 1
-Architecture: all
-Depends: x
-";
-
-/// The index with news since the one before it.
-const FIRST: Case<'static> = Case {
-    name: "first reasons of news",
-    index: NEWS,
-    earlier: Some(BEFORE),
-    step: 50,
-    written: FIRST_REASONS,
-    summary: Some(Summary {
-        stanzas: 4,
-        background: 1,
-        asked: 3,
-        broken: 2,
-        newly_broken: Some(1),
-        ..NOTHING
-    }),
-    ..GOES_ON
-};
-
-const FIRST_REASONS: &str = "b 1: broken {missing: b 1 Depends: c (>= 2)}
-stanzas 4, skipped 0, duplicates 0, background 1, asked 3, broken 2, newly-broken 1, mended {}, gone {}";
-
-const WALKED: Case<'static> = Case {
-    name: "all reasons and causes of news",
-    settings: Settings {
-        all_reasons: true,
-        causes: true,
-        why: true,
-        ..USUAL
-    },
-    written: WALKS_AND_CAUSES,
-    ..FIRST
-};
-
-const WALKS_AND_CAUSES: &str =
-    "b 1: broken why {b 1 Depends: c (>= 2) missing; present: c 1} also {b 1 Depends: y missing}
-stanzas 4, skipped 0, duplicates 0, background 1, asked 3, broken 2, newly-broken 1, mended {}, gone {}, causes 2
-cause 1 0 reasons {missing: c (>= 2)} needed-by {b 1 Depends: c (>= 2)} present {c 1} broken {b 1}
-cause 1 0 reasons {missing: y} needed-by {b 1 Depends: y} broken {b 1}";
-
-const IN_JSON: Case<'static> = Case {
-    name: "all reasons and causes of news in JSON",
-    settings: Settings {
-        all_reasons: true,
-        causes: true,
-        format: Format::Json,
-        ..USUAL
-    },
-    written: DOCUMENT,
-    ..FIRST
-};
-
-const DOCUMENT: &str =
-    r#"{"format":2,"options":["explain","bg","since","causes","all-reasons"],"architecture":"amd64","report":[
-{"package":"b","version":"1","architecture":"all","status":"broken",
- "reasons":[{"kind":"missing","package":"b","version":"1","field":"Depends","relation":"c (>= 2)"}],
- "also":[[{"kind":"missing","package":"b","version":"1","field":"Depends","relation":"y"}]]}
-],"stanzas":4,"skipped":0,"duplicates":0,"background":1,"asked":3,"broken":2,"newly-broken":1,"mended":[],"gone":[],"causes":[
-{"packages":1,"frees":0,"reasons":[{"kind":"missing","relation":"c (>= 2)"}],
- "needed-by":[{"package":"b","version":"1","field":"Depends","relation":"c (>= 2)"}],"hits":[],"versions":[],
- "present":[{"package":"c","version":"1"}],"similar":[],"broken":[{"package":"b","version":"1"}]},
-{"packages":1,"frees":0,"reasons":[{"kind":"missing","relation":"y"}],
- "needed-by":[{"package":"b","version":"1","field":"Depends","relation":"y"}],"hits":[],"versions":[],"present":[],"similar":[],
- "broken":[{"package":"b","version":"1"}]}
-]}"#;
-
-/// Without explanations and causes no core is told.
-const UNEXPLAINED: Case<'static> = Case {
-    name: "statuses of news",
-    settings: Settings {
-        explain: false,
-        ..USUAL
-    },
-    written: STATUSES,
-    ..FIRST
-};
-
-const STATUSES: &str = "b 1: broken
-stanzas 4, skipped 0, duplicates 0, background 1, asked 3, broken 2, newly-broken 1, mended {}, gone {}";
-
-static RUNS: [Case<'static>; 6] = [GOES_ON, FAULT, FIRST, WALKED, IN_JSON, UNEXPLAINED];
+static RUNS: [Case<'static>; 2] = [GOES_ON, FAULT];
 
 #[test]
 fn runs_since_an_earlier_index(rt: HostRuntime) {

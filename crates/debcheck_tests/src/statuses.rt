@@ -1,7 +1,9 @@
-//! The status of each fault.
+//! The status of each fault, and of a report.
 
+use crate::cases::NOTHING;
 use deb_index::IndexError;
 use deb_input::{RunFault, Slip};
+use deb_report::Summary;
 use debcheck::status;
 use std::process::Abort;
 
@@ -28,4 +30,24 @@ fn faults_have_their_statuses(rt: HostRuntime) {
     expect(&rt, RunFault::NamesTooLong, 67);
     expect(&rt, RunFault::Write, 68);
     expect(&rt, RunFault::Memory, 69);
+}
+
+#[test]
+fn status_tells_whether_some_are_broken(rt: HostRuntime) {
+    for (broken, newly_broken, wanted) in [
+        (0, None, 0),
+        (2, None, 1),
+        (2, Some(0), 0),
+        (2, Some(1), 1),
+        (2, Some(2), 1),
+    ] {
+        let summary = Summary {
+            broken,
+            newly_broken,
+            stanzas: 3,
+            asked: 3,
+            ..NOTHING
+        };
+        assert!(rt; status(&Ok(summary)) == wanted);
+    }
 }

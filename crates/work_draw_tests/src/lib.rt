@@ -1,4 +1,4 @@
-//! Tests of the public calls of `work_draw`.
+//! Tests of the public calls of `work_draw`, and of those of `deb_verdict` in `packages`.
 //!
 //! `examples` has an index and its places, `pieces` looks at what is made of the numbers, `tally` is a gate that counts the chunks and may hold
 //! workers back, `found` sees whether what is told is what is wanted, and `calls` asks a call of an index. `boards` draws from boards, `gates` holds
@@ -19,6 +19,8 @@ mod found;
 mod gates;
 #[cfg(test)]
 mod growths;
+#[cfg(test)]
+mod packages;
 #[cfg(test)]
 mod pieces;
 #[cfg(test)]

@@ -1,5 +1,0 @@
-use Rattle.std.proofs.Common.{◌<◌, All, length}
-use Rattle.deb_verdict_tests.proofs.marks.add_places.Given as goal
-
-abbrev pub invariant-words : goal.invariant-words
-invariant-words g l = All (λ place. place < length l.index.packages) l.places.items
