@@ -9,6 +9,7 @@ import shutil
 import signal
 import tempfile
 
+import older_kit
 from script import TOP, Failed
 
 CRATES, EDITS = os.path.join(TOP, "crates"), os.path.join(TOP, "trials", "edits")
@@ -49,6 +50,8 @@ def load_rt():
     rt = importlib.util.module_from_spec(importlib.util.spec_from_loader("rt", loader))
     loader.exec_module(rt)
     rt.rtlib.guarded()  # (a signal's handler, which only the main thread may set)
+    if not hasattr(rt, "Kept"):
+        older_kit.fit(rt)
     return rt
 
 
