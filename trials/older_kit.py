@@ -6,7 +6,7 @@ import time
 
 from script import TOP
 
-# (where `search` gave up at a limit of its own, rt must-fail takes the edit for refused)
+# Where only this stopped the prover, an edit shows little. That `search` gave up at a limit of its own says as much as a goal that is false.
 LIMITS = re.compile(r"(step|resource|memory) limit")
 
 
@@ -17,7 +17,8 @@ def fit(rt):
 
     def must_fail(crate, edit, flags, kept=None):
         is_refused, text = says(crate, edit, flags, kept)
-        return rt.REFUSED if is_refused else rt.MISSED if "NOT REFUSED" in text else rt.BAD, text
+        refused = rt.AT_LIMIT if LIMITS.search(text) else rt.REFUSED
+        return refused if is_refused else rt.MISSED if "NOT REFUSED" in text else rt.BAD, text
 
     def crates_of(top):
         rt.rtlib.Crate = rt.Crate
@@ -48,7 +49,8 @@ class Kept:
     def give(self, crate, _, made):
         """Whether the library is given to a copy of its crate: it is where it is newer than all sources, and not while rt writes it."""
         last = os.path.join(made, crate.name + ".rlib", "toolchain", "checked.a")
-        if not os.path.exists(last):
+        # (what other commands than rt ci make has a stamp)
+        if not os.path.exists(last) or os.path.exists(os.path.join(made, "stamp")):
             return False
         sources = max(os.path.getmtime(path) for it in (crate, *crate.below()) for path in sources_of(it))
         if not sources < os.path.getmtime(last) < time.time() - 2:

@@ -47,8 +47,8 @@ fn is_witness(part: &Part<'_>, p: u32, base: &BaseSet, more: &SparseSet) -> bool
 
 /// Whether a set with the package at a place is seen to meet a part of the constraints.
 ///
-/// A set that is found without a search is enough: on the base set each need takes what is in, or else one of its answers. Where that leads
-/// nowhere, the next try goes without what led there.
+/// A set that is found without a search is enough: on the base set each need takes what is in, or else one of its answers. The last set for the
+/// package goes on growing first, if it may. Where a try leads nowhere, the next one goes without what led there.
 pub fn is_seen_to_admit(
     part: &Part<'_>,
     p: u32,

@@ -1,4 +1,4 @@
-//! The lines of faults that no small input has; those of others stand in `debcheck_tests` and `program_tests`.
+//! The lines of faults that no small input has; those of others stand in `worked_examples` and `program_tests`.
 
 use deb_index::IndexError;
 use deb_input::{RunFault, fault_line};

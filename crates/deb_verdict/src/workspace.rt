@@ -25,7 +25,7 @@ pub struct Workspace {
     pub(crate) solver: sat_solve::Workspace,
     pub(crate) propagation: Propagation,
     pub(crate) witness: Witness,
-    /// That of questions in which no constraint is kept yet: from one cause to the next it goes on growing.
+    /// That of questions that keep no constraint yet and leave some out: from one cause to the next it goes on growing.
     pub(crate) first_witness: Witness,
     /// A base set of nothing.
     pub(crate) nothing: BaseSet,

@@ -1,5 +1,5 @@
-//! The hints of `debcheck`: `beginnings` of what first bytes tell, `inputs` of what indexes tell, and `outcomes` of what runs do. Those of whole programs
-//! are in `program_tests`.
+//! The hints of `debcheck`: `beginnings` of what first bytes tell, `inputs` of what indexes tell, and `outcomes` of what runs do. Whole programs tell
+//! theirs in `trials/hints`.
 
 mod beginnings;
 mod inputs;

@@ -1,4 +1,4 @@
-//! Tests of the public calls of `work_draw`, and of those of `deb_verdict` in `packages`.
+//! Tests of the public calls of `work_draw`; `packages` has those of `deb_verdict`.
 //!
 //! `examples` has an index and its places, `pieces` looks at what is made of the numbers, `tally` is a gate that counts the chunks and may hold
 //! workers back, `found` sees whether what is told is what is wanted, and `calls` asks a call of an index. `boards` draws from boards, `gates` holds
