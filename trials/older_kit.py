@@ -6,7 +6,7 @@ import time
 
 from script import TOP
 
-# Where only this stopped the prover, an edit shows little. That `search` gave up at a limit of its own says as much as a goal that is false.
+# What stops the prover itself, where an edit shows little. Where `search` gave up at a limit of its own, the edit counts as refused, as in rt must-fail.
 LIMITS = re.compile(r"(step|resource|memory) limit")
 
 
