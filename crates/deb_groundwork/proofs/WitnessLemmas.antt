@@ -1,16 +1,17 @@
 -- Sets that are seen to meet a part of the constraints.
-use Rattle.std.proofs.Common.{◌≡◌, ℕ, ◌<◌, ◌≤◌, Bool, true, false, not, List, length, get_or, Option, Some, None, slice_get, sym, subst, ◌∙◌, ap, arith}
+use Rattle.std.proofs.Common.{◌≡◌, ℕ, ◌+◌, ◌<◌, ◌≤◌, refl, Bool, true, false, not, List, length, get_or, Option, Some, None, slice_get, sym, subst, ◌∙◌, ap, arith}
 use Rattle.std.specs.Prelude.{is_some, IfNone}
 use Rattle.std.specs.List.{list_any}
 use Rattle.std.proofs.lemmas.Bool.{false≢true}
 use Rattle.std.proofs.lemmas.Option.{slice_get-get_or}
 use Rattle.deb_index.specs.declared.constraint.Constraint.{Constraint}
 use Rattle.deb_index.specs.declared.constraint.Constraint.TheVariants.{Essential, Need, Apart, Only}
-use Rattle.deb_index.specs.Packages.{IndexView, package_at, names, name_at, places_of, essential_names, apart_at}
+use Rattle.deb_index.specs.Packages.{IndexView, package_at, names, name_at, needs_at, places_of, essential_names, apart_at}
+use Rattle.deb_index.specs.Links.{first_position}
 use Rattle.deb_index.specs.Meets.{satisfiers}
 use Rattle.deb_index.specs.Constraints.{Holds, IsOfIndex, constraints_of}
 use Rattle.deb_index.proofs.ConstraintLemmas.{constraints-within}
-use Rattle.deb_index.proofs.PositionLemmas.{one_position, essential_position}
+use Rattle.deb_index.proofs.PositionLemmas.{one_position, essential_position, need-place}
 use Rattle.number_sets.specs.Sets.{NumberSet, members_of}
 use Rattle.deb_health.specs.Health.{MeetsAt}
 use Rattle.deb_groundwork.specs.Groundwork.{IsEssentialRow}
@@ -47,6 +48,13 @@ module _ (index : IndexView) (set : NumberSet) where
       only q (ap (λ list. members_of list q) row_is ∙ (member_satisfiers index (apart_at index place j) q ∙ hit)) is_in
 
 -- ---- what is asked of it
+
+-- a need stands as far behind the first one of its package as its number says
+pub need_stands : (index : IndexView) (place number at : ℕ) → place < length index.packages → number < length (needs_at index place) → slice_get (constraints_of index) at ≡ Some (Need place number)
+    → at ≡ first_position index place + number
+need_stands index place number at within less there =
+    let behind = first_position index place + number in
+    one_position index at behind (Need place number) there (need-place index place number behind within less refl)
 
 module _ (part : Part) (set : NumberSet) where
   -- nothing is asked where the constraint stands at no position of the part

@@ -133,15 +133,12 @@ impl Witness {
         false
     }
 
-    /// Puts in an answer of a need, where none is in and the part asks for one. Where it has several and a choice can wait, the place that has it
-    /// is open. `false` where none will do.
+    /// Puts in an answer of a need, where none is in. Where it has several and a choice can wait, the place that has it is open. `false` where none
+    /// will do.
     fn take_answer(&mut self, ground: &Ground, place: u32, number: u32, can_wait: bool) -> bool
         requires place { place < length ground.now.part.index.now.packages }
         requires number { number < length (needs_at ground.now.part.index.now place) }
     {
-        if !ground.asks(place, number) {
-            return true;
-        }
         match ground.part.index.answer_row(place, number) {
             Some(row) if has_any(&self.on(ground.base), row) => true,
             Some(row) if row.len() < 2 || !can_wait => {
@@ -156,8 +153,14 @@ impl Witness {
     fn take_answers(&mut self, ground: &Ground, place: u32, can_wait: bool) -> bool
         requires { place < length ground.now.part.index.now.packages }
     {
-        for number in ground.part.first_need(place)..ground.part.index.need_count(place) {
-            if !self.take_answer(ground, place, number, can_wait) {
+        let count = ground.part.index.need_count(place);
+        let mut number = 0;
+        while number < count {
+            if !ground.asks(place, number) {
+                number = ground.part.next_need(place, number + 1);
+            } else if self.take_answer(ground, place, number, can_wait) {
+                number += 1;
+            } else {
                 return false;
             }
         }
@@ -245,6 +248,7 @@ impl Witness {
                 continue;
             };
             if self.more.members.contains(place)
+                && !part.is_out(position)
                 && !self.take_answer(ground, place, number, false)
             {
                 return false;

@@ -1,6 +1,6 @@
 //! Whether a set is healthy, as far as a part of the constraints asks: looked up for each of its places, without a claim on how it came to be.
 
-ghost use Rattle.std.specs.Prelude.{◌≡◌, ℕ, ◌<◌, ◌&&◌, ltb, Some, true, All, length, slice_get};
+ghost use Rattle.std.specs.Prelude.{◌≡◌, ℕ, ◌<◌, ◌≤◌, ◌&&◌, ltb, Some, true, All, IfSome, length, slice_get};
 ghost use Rattle.std.specs.List.{list_any};
 ghost use Rattle.deb_index.specs.Packages.{essential_names, needs_at, aparts_at};
 ghost use Rattle.number_sets.specs.Sets.{members_of};
@@ -37,17 +37,24 @@ pub(crate) fn meets_essentials<P: Places>(part: &Part<'_>, set: &P) -> bool
     true
 }
 
-/// Whether the set answers a need of a place, where the part asks for it.
-fn meets_need<P: Places>(part: &Part<'_>, set: &P, place: u32, number: u32) -> bool
+/// The next number of a need of a place to look at, where the set answers the one with this number or the part doesn't ask for it.
+fn pass_need<P: Places>(part: &Part<'_>, set: &P, place: u32, number: u32) -> Option<u32>
     requires place { place < length part.now.index.now.packages }
     requires number { number < length (needs_at part.now.index.now place) }
-    ensures { result ≡ true → MeetsAsked part.now (P.members set.now) (Constraint.Need place number) }
+    ensures later { IfSome result (λ next. number < next) }
+    ensures met { IfSome result (λ next. (j : ℕ) → number ≤ j → j < next → j < length (needs_at part.now.index.now place)
+        → MeetsAsked part.now (P.members set.now) (Constraint.Need place j)) }
 {
     let index = part.index;
+    let _limit = index.need_count(place);
     if !part.has(index.need_position(place, number)) {
-        return true;
+        return Some(part.next_need(place, number + 1));
     }
-    is_answered(index, set, place, number)
+    if is_answered(index, set, place, number) {
+        Some(number + 1)
+    } else {
+        None
+    }
 }
 
 /// Whether an entry of a place hits no other one of the set, where the part asks for it.
@@ -98,10 +105,13 @@ pub(crate) fn meets_place<P: Places>(part: &Part<'_>, set: &P, place: u32) -> bo
     requires { place < length part.now.index.now.packages }
     ensures { result ≡ true → MeetsAskedOf part.now (P.members set.now) place }
 {
-    for number in 0..part.index.need_count(place) {
-        if !meets_need(part, set, place, number) {
+    let count = part.index.need_count(place);
+    let mut number = 0;
+    while number < count {
+        let Some(next) = pass_need(part, set, place, number) else {
             return false;
-        }
+        };
+        number = next;
     }
     for entry in 0..part.index.apart_count(place) {
         if !meets_apart(part, set, place, entry) {

@@ -1,10 +1,11 @@
 //! A part of the constraints of an index.
 
-ghost use Rattle.std.specs.Prelude.{◌≡◌, ◌<◌, length};
+ghost use Rattle.std.specs.Prelude.{◌≡◌, ℕ, false, ◌<◌, ◌≤◌, length};
 ghost use Rattle.std.specs.List.Sorted.{IsStrictlyIncreasing};
 ghost use Rattle.number_sets.specs.Sets.{members_of};
 
-use deb_index::Index;
+use core_extract::next_of;
+use deb_index::{Constraint, Index};
 use number_sets::SparseSet;
 
 /// Some constraints of an index by their positions in the list of all, and all from one position on, without those that are taken out.
@@ -26,7 +27,8 @@ pub fn is_among(numbers: &[u32], number: u32) -> bool
 }
 
 impl<'a> Part<'a> {
-    ghost use Rattle.deb_groundwork.specs.Parts.{positions_in, taken_out};
+    ghost use Rattle.deb_index.specs.Packages.{needs_at};
+    ghost use Rattle.deb_groundwork.specs.Parts.{positions_in, taken_out, IsAsked};
 
     /// Whether the constraint at a position is taken out.
     pub fn is_out(&self, position: u32) -> bool
@@ -50,21 +52,31 @@ impl<'a> Part<'a> {
         self.rest > 0 || self.out.is_some_and(|out| !out.as_slice().is_empty())
     }
 
-    /// The number of the first need of a place that it may have, by what is kept and the rest.
-    pub(crate) fn first_need(&self, place: u32) -> u32
-        requires { place < length self.now.index.now.packages }
+    /// The first position, from one on, that it may have by what is kept and the rest.
+    fn next_position(&self, from: u32) -> u32
+        ensures later { from ≤ result }
+        ensures passed { (k : ℕ) → from ≤ k → k < result → positions_in self.now k ≡ false }
     {
-        if self.rest == 0 || self.index.need_count(place) == 0 {
-            return 0;
+        if from >= self.rest {
+            return from;
         }
-        let first = self.index.need_position(place, 0);
-        let begins = match self.kept.binary_search(&first) {
-            Ok(_) => first,
-            Err(at) => match self.kept.get(at) {
-                Some(position) => self.rest.min(*position),
-                None => self.rest,
-            },
-        };
-        begins.saturating_sub(first)
+        match next_of(self.kept, from) {
+            Some(next) if next < self.rest => next,
+            _ => self.rest,
+        }
+    }
+
+    /// The first number, from one on, of a need of a place that it may have by what is kept and the rest.
+    pub(crate) fn next_need(&self, place: u32, number: u32) -> u32
+        requires { place < length self.now.index.now.packages }
+        ensures later { number ≤ result }
+        ensures passed { (j : ℕ) → number ≤ j → j < result → j < length (needs_at self.now.index.now place)
+            → IsAsked self.now (Constraint.Need place j) → ⊥ }
+    {
+        if self.rest == 0 || number >= self.index.need_count(place) {
+            return number;
+        }
+        let position = self.index.need_position(place, number);
+        number.saturating_add(self.next_position(position) - position)
     }
 }

@@ -10,7 +10,7 @@ use crate::derivation::{Step, is_refutation};
 use crate::part::Part;
 use crate::rows::{essential_count, essential_row};
 use deb_index::Index;
-use number_sets::SparseSet;
+use number_sets::{SparseSet, sort_once};
 use std::alloc::Global;
 use std::mem;
 
@@ -23,6 +23,8 @@ pub struct Propagation {
     causes: Vec<Step>,
     /// The places that a contradiction rests on.
     needed: SparseSet,
+    /// The numbers of the steps that forced these.
+    numbers: Vec<u32>,
     /// The steps that it rests on, its own first.
     steps: Vec<Step>,
     /// What is in by the steps that are checked.
@@ -42,6 +44,7 @@ impl Propagation {
             forced: SparseSet::new(alloc),
             causes: Vec::new(alloc),
             needed: SparseSet::new(alloc),
+            numbers: Vec::new(alloc),
             steps: Vec::new(alloc),
             checked: SparseSet::new(alloc),
             positions: Vec::new(alloc),
@@ -71,7 +74,7 @@ impl Propagation {
     fn visit(&mut self, part: &Part<'_>, base: &BaseSet, place: u32) -> Option<Step>
         requires { place < length part.now.index.now.packages }
     {
-        for number in (part.first_need(place)..part.index.need_count(place)).rev() {
+        for number in (part.next_need(place, 0)..part.index.need_count(place)).rev() {
             if !part.has(part.index.need_position(place, number)) {
                 continue;
             }
@@ -152,35 +155,44 @@ impl Propagation {
         false
     }
 
-    /// Writes down a step, and that the places are needed that it is held against.
-    fn write(&mut self, step: Step) -> bool {
+    /// Takes down that the places are needed that a step is held against.
+    fn need(&mut self, step: Step) -> bool {
         let (first, second) = match step {
-            Step::Essential(_) => return self.steps.push(step).is_ok(),
+            Step::Essential(_) => return true,
             Step::Need(place, _) => (place, place),
             Step::Apart(place, _, other) => (place, other),
             Step::Only(first, second) => (first, second),
         };
-        self.needed.insert(first).is_ok()
-            && self.needed.insert(second).is_ok()
-            && self.steps.push(step).is_ok()
+        self.needed.insert(first).is_ok() && self.needed.insert(second).is_ok()
     }
 
     /// Writes down the steps that a contradiction rests on, the last one first. `false` for want of memory.
     fn derive(&mut self, conflict: Step) -> bool {
         self.needed.clear();
+        self.numbers.clear();
         self.steps.clear();
-        let mut written = self.write(conflict);
-        // No step forced the first place.
-        for number in (0..self.causes.len()).rev() {
+        let mut written = self.need(conflict) && self.steps.push(conflict).is_ok();
+        for visited in 0..self.forced.as_slice().len() {
+            let Some(place) = self.needed.as_slice().get(visited) else {
+                break;
+            };
+            // No step forced the first place.
+            let position = self.forced.position_of(*place).unwrap_or(0);
+            let Some(number) = position.checked_sub(1) else {
+                continue;
+            };
             let Some(cause) = self.causes.get(number).copied() else {
                 return false;
             };
-            let Some(place) = self.forced.as_slice().get(number + 1).copied() else {
+            let number = number.min(u32::MAX as usize) as u32;
+            written &= self.need(cause) && self.numbers.push(number).is_ok();
+        }
+        sort_once(&mut self.numbers);
+        for number in self.numbers.iter().rev() {
+            let Some(cause) = self.causes.get(*number as usize).copied() else {
                 return false;
             };
-            if self.needed.contains(place) {
-                written &= self.write(cause);
-            }
+            written &= self.steps.push(cause).is_ok();
         }
         written
     }

@@ -111,6 +111,8 @@ pub(crate) fn cores_in(
     let mut out = SparseSet::new(alloc);
     mem::swap(&mut out, &mut workspace.out);
     out.clear();
+    workspace.by_formula = 0;
+    workspace.on_nothing = false;
     while let Some(positions) = first_positions(alloc, workspace, groundwork, p, &out, formula)? {
         let mut core = Vec::new(alloc);
         list_constraints(index, &positions, &mut core)?;

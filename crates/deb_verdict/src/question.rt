@@ -1,24 +1,46 @@
 //! The question whether a part of the constraints admits no set with a package.
 
-ghost use Rattle.std.specs.Prelude.{◌≡◌, ℕ, ◌<◌, true, false, IfOk, length};
+ghost use Rattle.std.specs.Prelude.{◌≡◌, ℕ, ◌<◌, true, false, [], IfOk, length};
 ghost use Rattle.std.specs.Option.{ForSome};
 ghost use Rattle.std.specs.List.Sorted.{IsStrictlyIncreasing};
 ghost use Rattle.number_sets.specs.Sets.{all_of, members_of};
 ghost use Rattle.deb_health.specs.Causes.{without};
-ghost use Rattle.deb_health.specs.Health.{AdmitsNone};
+ghost use Rattle.deb_health.specs.Health.{Admits, AdmitsNone};
 ghost use Rattle.deb_groundwork.specs.Parts.{positions_in, IsRefutedBy};
 ghost use Rattle.deb_verdict.specs.Formulas.{Tells, AreKnown};
 
 use crate::by_formula::{learn, refute_by_formula, tells_more};
 use crate::core_formula::CoreFormula;
 use crate::known::Known;
-use crate::limits::MANY;
+use crate::limits::{IN_A_ROW, MANY};
 use crate::workspace::Workspace;
 use core_extract::{Question, next_of};
-use deb_groundwork::{Groundwork, Part, is_seen_to_admit, refute_by_forcing};
+use deb_groundwork::{BaseSet, Groundwork, Part, Witness, is_seen_to_admit, refute_by_forcing};
 use number_sets::{SparseSet, sort_once};
 use std::alloc::{AllocError, Global};
 use std::mem;
+
+/// Whether a set with the package at a place is seen to meet a part of the constraints, on the base set or on nothing.
+fn is_seen_on(
+    part: &Part<'_>,
+    p: u32,
+    groundwork: &Groundwork<'_>,
+    nothing: &BaseSet,
+    on_nothing: bool,
+    witness: &mut Witness,
+) -> bool
+    requires place { p < length part.now.index.now.packages }
+    requires index { groundwork.now.index.now ≡ part.now.index.now }
+    requires nothing { nothing.now.members ≡ [] }
+    ensures { result ≡ true → Admits part.now.index.now p (positions_in part.now) }
+{
+    let lacking = &groundwork.lacking;
+    if on_nothing {
+        is_seen_to_admit(part, p, nothing, lacking, witness)
+    } else {
+        is_seen_to_admit(part, p, &groundwork.base, lacking, witness)
+    }
+}
 
 /// Whether a part of the constraints admits no set with the package at a place. Where it admits none, the workspace's `used` then has the
 /// positions of constraints of the part that already do.
@@ -42,30 +64,34 @@ fn refute_part(
         return refute_by_formula(alloc, part, p, formula, workspace);
     }
     let base = &groundwork.base;
-    let lacking = &groundwork.lacking;
     let propagation = &mut workspace.propagation;
     let used = &mut workspace.used;
+    // What the package asks for may be at odds with the base set. What its last set stood on goes first.
+    let nothing = &mut workspace.nothing;
+    nothing.clear();
+    let on_nothing = workspace.on_nothing;
     // Each package whose core is looked for is broken, so only without some constraints is there a set. Where all are asked about but those of
     // earlier causes, forcing goes on from where it was.
     let may_admit = part.may_lack_one();
     let goes_on = part.rest == 0;
+    let first = &mut workspace.first_witness;
+    let witness = &mut workspace.witness;
     if !goes_on && part.kept.is_empty() {
-        if is_seen_to_admit(part, p, base, lacking, &mut workspace.first_witness) {
+        if is_seen_on(part, p, groundwork, nothing, on_nothing, first) {
             return Ok(false);
         }
-    } else if !goes_on && is_seen_to_admit(part, p, base, lacking, &mut workspace.witness) {
+    } else if !goes_on && is_seen_on(part, p, groundwork, nothing, on_nothing, witness) {
         return Ok(false);
     }
     if refute_by_forcing(part, p, base, propagation, used) {
+        workspace.by_formula = 0;
         return Ok(true);
     }
-    if goes_on && may_admit && is_seen_to_admit(part, p, base, lacking, &mut workspace.witness) {
+    if goes_on && may_admit && is_seen_on(part, p, groundwork, nothing, on_nothing, witness) {
         return Ok(false);
     }
-    // What the package asks for may be at odds with the base set.
-    let nothing = &mut workspace.nothing;
-    nothing.clear();
-    if may_admit && is_seen_to_admit(part, p, nothing, lacking, &mut workspace.witness) {
+    if may_admit && is_seen_on(part, p, groundwork, nothing, !on_nothing, witness) {
+        workspace.on_nothing = !on_nothing;
         return Ok(false);
     }
     // Only what came against the base set may come against what its members need.
@@ -73,6 +99,9 @@ fn refute_part(
         && refute_by_forcing(part, p, nothing, propagation, used)
     {
         return Ok(true);
+    }
+    if goes_on {
+        workspace.by_formula = workspace.by_formula.saturating_add(1);
     }
     refute_by_formula(alloc, part, p, formula, workspace)
 }
@@ -154,7 +183,8 @@ impl<'a> Question for Blocking<'a> {
             rest,
             out: Some(self.out),
         };
-        self.workspace.alone = is_for_formula(&self.formula, &self.used, self.asked);
+        self.workspace.alone = is_for_formula(&self.formula, &self.used, self.asked)
+            || rest == 0 && self.workspace.by_formula >= IN_A_ROW;
         let refuted = refute_part(
             alloc,
             &part,

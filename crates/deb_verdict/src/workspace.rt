@@ -33,6 +33,10 @@ pub struct Workspace {
     pub(crate) constraints: Vec<Constraint>,
     /// Whether the next question is put to the package's formula alone.
     pub(crate) alone: bool,
+    /// How many causes of the package in a row its formula alone showed.
+    pub(crate) by_formula: u32,
+    /// Whether the next witness for the package stands on nothing first, as the last set for it did.
+    pub(crate) on_nothing: bool,
     /// The groups that a solve keeps, and those that it used.
     pub(crate) keep: Vec<bool>,
     pub(crate) marks: Vec<bool>,
@@ -64,6 +68,8 @@ impl Workspace {
             nothing: BaseSet::empty(alloc),
             constraints: Vec::new(alloc),
             alone: false,
+            by_formula: 0,
+            on_nothing: false,
             keep: Vec::new(alloc),
             marks: Vec::new(alloc),
             set: Vec::new(alloc),
