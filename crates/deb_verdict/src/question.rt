@@ -1,6 +1,6 @@
 //! The question whether a part of the constraints admits no set with a package.
 
-ghost use Rattle.std.specs.Prelude.{◌≡◌, ℕ, ◌<◌, true, false, [], IfOk, length};
+ghost use Rattle.std.specs.Prelude.{◌≡◌, ℕ, ◌<◌, true, false, IfOk, length};
 ghost use Rattle.std.specs.Option.{ForSome};
 ghost use Rattle.std.specs.List.Sorted.{IsStrictlyIncreasing};
 ghost use Rattle.number_sets.specs.Sets.{all_of, members_of};
@@ -15,30 +15,36 @@ use crate::known::Known;
 use crate::limits::{IN_A_ROW, MANY};
 use crate::workspace::Workspace;
 use core_extract::{Question, next_of};
-use deb_groundwork::{BaseSet, Groundwork, Part, Witness, is_seen_to_admit, refute_by_forcing};
+use deb_groundwork::{Groundwork, Part, is_seen_to_admit, refute_by_forcing};
 use number_sets::{SparseSet, sort_once};
 use std::alloc::{AllocError, Global};
 use std::mem;
 
-/// Whether a set with the package at a place is seen to meet a part of the constraints, on the base set or on nothing.
+/// Whether a set with the package at a place is seen to meet a part of the constraints, on the base set or on nothing. Questions that keep no
+/// constraint yet and leave some out have a witness of their own.
 fn is_seen_on(
     part: &Part<'_>,
     p: u32,
     groundwork: &Groundwork<'_>,
-    nothing: &BaseSet,
     on_nothing: bool,
-    witness: &mut Witness,
+    workspace: &mut Workspace,
 ) -> bool
     requires place { p < length part.now.index.now.packages }
     requires index { groundwork.now.index.now ≡ part.now.index.now }
-    requires nothing { nothing.now.members ≡ [] }
     ensures { result ≡ true → Admits part.now.index.now p (positions_in part.now) }
 {
     let lacking = &groundwork.lacking;
-    if on_nothing {
-        is_seen_to_admit(part, p, nothing, lacking, witness)
-    } else {
-        is_seen_to_admit(part, p, &groundwork.base, lacking, witness)
+    let base = &groundwork.base;
+    let is_own = part.kept.is_empty() && part.rest > 0 && on_nothing == workspace.on_nothing;
+    let own = &mut workspace.first_witness;
+    let witness = &mut workspace.witness;
+    let nothing = &mut workspace.nothing;
+    nothing.clear();
+    match (on_nothing, is_own) {
+        (false, false) => is_seen_to_admit(part, p, base, lacking, witness),
+        (false, true) => is_seen_to_admit(part, p, base, lacking, own),
+        (true, false) => is_seen_to_admit(part, p, nothing, lacking, witness),
+        (true, true) => is_seen_to_admit(part, p, nothing, lacking, own),
     }
 }
 
@@ -64,39 +70,33 @@ fn refute_part(
         return refute_by_formula(alloc, part, p, formula, workspace);
     }
     let base = &groundwork.base;
-    let propagation = &mut workspace.propagation;
-    let used = &mut workspace.used;
-    // What the package asks for may be at odds with the base set. What its last set stood on goes first.
-    let nothing = &mut workspace.nothing;
-    nothing.clear();
+    // What the package asks for may be at odds with the base set. What its last set stood on goes first, but where all are asked about but those of
+    // earlier causes: there forcing goes on from where it was.
     let on_nothing = workspace.on_nothing;
-    // Each package whose core is looked for is broken, so only without some constraints is there a set. Where all are asked about but those of
-    // earlier causes, forcing goes on from where it was.
-    let may_admit = part.may_lack_one();
     let goes_on = part.rest == 0;
-    let first = &mut workspace.first_witness;
-    let witness = &mut workspace.witness;
-    if !goes_on && part.kept.is_empty() {
-        if is_seen_on(part, p, groundwork, nothing, on_nothing, first) {
-            return Ok(false);
-        }
-    } else if !goes_on && is_seen_on(part, p, groundwork, nothing, on_nothing, witness) {
+    if !goes_on && is_seen_on(part, p, groundwork, on_nothing, workspace) {
         return Ok(false);
     }
-    if refute_by_forcing(part, p, base, propagation, used) {
+    let propagation = &mut workspace.propagation;
+    if refute_by_forcing(part, p, base, propagation, &mut workspace.used) {
         workspace.by_formula = 0;
         return Ok(true);
     }
-    if goes_on && may_admit && is_seen_on(part, p, groundwork, nothing, on_nothing, witness) {
+    // Each package whose core is looked for is broken, so only without some constraints is there a set.
+    let may_admit = part.may_lack_one();
+    if goes_on && may_admit && is_seen_on(part, p, groundwork, on_nothing, workspace) {
         return Ok(false);
     }
-    if may_admit && is_seen_on(part, p, groundwork, nothing, !on_nothing, witness) {
+    if may_admit && is_seen_on(part, p, groundwork, !on_nothing, workspace) {
         workspace.on_nothing = !on_nothing;
         return Ok(false);
     }
     // Only what came against the base set may come against what its members need.
+    workspace.nothing.clear();
+    let nothing = &workspace.nothing;
+    let propagation = &mut workspace.propagation;
     if propagation.lacks_room(part.index, base)
-        && refute_by_forcing(part, p, nothing, propagation, used)
+        && refute_by_forcing(part, p, nothing, propagation, &mut workspace.used)
     {
         return Ok(true);
     }
