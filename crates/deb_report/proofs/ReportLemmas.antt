@@ -22,7 +22,7 @@ counted asked broken news = record { asked = asked; broken = broken; newly_broke
 
 module _ (index : IndexView) (asked : List ℕ) (told : List ToldView) where
   -- as many are listed as are broken
-  listed-broken : (broken : List Shown) → map shown_view broken ≡ broken_ones asked told → length broken ≡ length (broken_ones asked told)
+  pub listed-broken : (broken : List Shown) → map shown_view broken ≡ broken_ones asked told → length broken ≡ length (broken_ones asked told)
   listed-broken broken are = sym (length-map broken shown_view) ∙ ap length are
 
   pub counts-since : (before : List BrokenView) (broken news : List Shown) → map shown_view broken ≡ broken_ones asked told

@@ -144,7 +144,13 @@ fn tell_each<'t, G: Gate + Sync, R: Threads + Sync>(
     ensures { IfOk result (λ told. AnswersEach (IsToldAt wanted index.now (before_view before.entry)) asked.now told.items) }
 {
     let groundwork = Groundwork::new(job.alloc, index)?;
-    let installable = marks_for(job.alloc, &groundwork, asked, wanted.sets)?;
+    let installable = match marks_for(job.alloc, &groundwork, asked, wanted.sets) {
+        Ok(installable) => installable,
+        Err(fault) => {
+            drop(groundwork);
+            return Err(fault);
+        }
+    };
     let teller = Teller {
         groundwork: &groundwork,
         wanted,
@@ -160,6 +166,7 @@ fn tell_each<'t, G: Gate + Sync, R: Threads + Sync>(
     };
     let told = check_each(job.rt, job.alloc, &chunks, job.config.workers);
     job.gate.end();
+    drop(groundwork);
     told
 }
 

@@ -1,4 +1,4 @@
-use Rattle.std.proofs.Common.{◌≡◌, ◌∙◌, ℕ, List, Some, ap, length, map, rules}
+use Rattle.std.proofs.Common.{◌≡◌, ◌∙◌, ℕ, List, None, Some, ap, length, map, rules}
 use Rattle.std.specs.Option.{option_map}
 use Rattle.deb_health.specs.declared.shown.Shown.{Shown}
 use Rattle.deb_health.specs.Verdicts.{shown_view, told_view}
@@ -9,7 +9,7 @@ use Rattle.deb_report.specs.Outcome.{broken_ones}
 use Rattle.deb_report.specs.Since.{amends_of, amends_view, broken_view, is_news}
 use Rattle.deb_report.specs.Content.{causes_if}
 use Rattle.deb_report.proofs.ShownLemmas.{kept-within, shown-within}
-use Rattle.deb_report.proofs.ReportLemmas.{content-is, counted, counts-since, news-are}
+use Rattle.deb_report.proofs.ReportLemmas.{content-is, counted, counts-since, listed-broken, news-are}
 use Rattle.deb_report.proofs.content.content_of.Goals as goal
 
 -- what holds of the broken ones
@@ -18,6 +18,20 @@ pub causes_if-requires : goal.causes_if-requires
 causes_if-requires c =
     shown-within c.args.index.now Failures c.args.asked.now (map told_view c.args.told.now) c.as_slice-broken.result.now
     (ap (map shown_view) c.as_slice-broken.ensures.value ∙ c.in_ok-failures.ensures) c.requires.places c.requires.within
+
+pub returns-in-None-clause-content : goal.returns-in-None-clause-content
+returns-in-None-clause-content c =
+    let index = c.args.index.now in
+    let asked = c.args.asked.now in
+    let told = map told_view c.args.told.now in
+    let broken = c.as_slice-broken.result.now in
+    let are : map shown_view broken ≡ broken_ones asked told = ap (map shown_view) c.as_slice-broken.ensures.value ∙ c.in_ok-failures.ensures in
+    rw c.in-None.is
+    (content-is index asked told (settings_of c.args.config.now) None (map shown_view c.in_ok-blocks-in-None.blocks.items) (map shown_view broken)
+    (counted (length asked) (length broken) None) (map amends_view c.new.result.items)
+    (option_map (λ list. map cause_view list.items) c.in_ok-causes-in-None.causes)
+    c.in_ok-blocks-in-None.ensures are (ap (λ (count : ℕ). counted (length asked) count None) (listed-broken index asked told broken are))
+    (ap (map amends_view) c.new.ensures.items) c.in_ok-causes-in-None.ensures.value)
 
 pub returns-in-None-clause-within : goal.returns-in-None-clause-within
 returns-in-None-clause-within c = record {

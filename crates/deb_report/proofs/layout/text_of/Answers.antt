@@ -8,5 +8,8 @@ similar_to_walks-requires c = rw c.as_slice.ensures.value c.in_ok-content.ensure
 pub text-requires-clause-walked : goal.text-requires-clause-walked
 text-requires-clause-walked c = rw c.as_slice.ensures.value at c.in_ok-similar.ensures
 
+pub text-requires-clause-content : goal.text-requires-clause-content
+text-requires-clause-content c = c.in_ok-content.ensures.within
+
 pub returns-clause-counts : goal.returns-clause-counts
 returns-clause-counts c = ap (λ (view : ContentView). view.counts) c.in_ok-content.ensures.content

@@ -1,4 +1,5 @@
 use Rattle.std.proofs.Common.{◌≡◌, ◌∙◌, ℕ, ◌<◌, List, [], All, Some, length, map, slice_get, sym, ap, subst, refl, arith}
+use Rattle.std.specs.List.Sorted.{IsStrictlyIncreasing}
 use Rattle.std.proofs.lemmas.List.Elements.{All-nil}
 use Rattle.std.proofs.lemmas.Option.{slice_get_within}
 use Rattle.deb_index.specs.declared.constraint.Constraint.{Constraint}
@@ -14,6 +15,18 @@ use Rattle.deb_verdict.proofs.Described.{carry}
 use Rattle.deb_verdict.proofs.Settled.{IsOfClosure, told_refuted, told_admitted}
 use Rattle.deb_verdict.proofs.Encoded.{sizes}
 use Rattle.deb_verdict.proofs.by_formula.describe.Goals as goal
+
+pub new-play-requires-clause-rising : goal.new-play-requires-clause-rising
+new-play-requires-clause-rising c = c.in_ok-gather.ensures.gathered.rising
+
+pub new-play-requires-clause-candidates_within : goal.new-play-requires-clause-candidates_within
+new-play-requires-clause-candidates_within c = c.in_ok-gather.ensures.gathered.within
+
+pub new-play-requires-clause-forced_within : goal.new-play-requires-clause-forced_within
+new-play-requires-clause-forced_within c = below_moved c.clear.new.self.members [] _ _ c.clear.ensures.members refl (All-nil (λ q. q < length c.args.index.now.packages))
+
+pub count_of-requires-clause-rising : goal.count_of-requires-clause-rising
+count_of-requires-clause-rising c = subst IsStrictlyIncreasing (sym c.as_slice-members.ensures) c.in_ok-gather.ensures.gathered.rising
 
 pub list_positions-requires : goal.list_positions-requires
 list_positions-requires c = record {

@@ -25,13 +25,14 @@ returns g c =
     let wanted = c.args.wanted in
     let asked = c.args.asked.now in
     let result = c.check_each-told.result in
+    let installable = rw c.in-Ok.is at c.marks_for.ensures in
     let told : IfOk result (λ told. AnswersEach (IsToldAt wanted on before) asked told.items) =
     IfOk-weaker result _ _
     (λ (told : Vec Told Global) each.
     subst (AnswersEach (IsToldAt wanted on before) asked) (map-id told.items)
     (AnswersEach-map (IsFoundAt marks wanted on before) (IsToldAt wanted on before) (λ one. one)
-    (λ place one. found-told wanted on before marks place one (λ shown. c.as_slice.ensures.value ∙ c.in_ok-installable.ensures.none shown)
-    (λ place has. c.in_ok-installable.ensures.marked place (subst (λ (list : List Bool). slice_index_or list place false ≡ true) c.as_slice.ensures.value has)))
+    (λ place one. found-told wanted on before marks place one (λ shown. c.as_slice.ensures.value ∙ installable.none shown)
+    (λ place has. installable.marked place (subst (λ (list : List Bool). slice_index_or list place false ≡ true) c.as_slice.ensures.value has)))
     asked told.items each))
     c.check_each-told.ensures
     in

@@ -1,5 +1,6 @@
-use Rattle.std.proofs.Common.{append_assoc}
+use Rattle.std.proofs.Common.{◌∷◌, []}
 use Rattle.deb_report.specs.Document.{block_in}
+use Rattle.deb_report.proofs.JoinLemmas.{in-order}
 use Rattle.deb_report.proofs.document.WriterPrintShown.print.Goals as goal
 
 pub returns : goal.returns
@@ -18,4 +19,4 @@ returns c =
       c.status_text.ensures,
       ← c.package-deb.ensures,
     )
-    (simp append_assoc)
+    (in-order c.args.out.now.items _ (_ ∷ _ ∷ _ ∷ _ ∷ _ ∷ []))
