@@ -10,9 +10,9 @@ version := $(wildcard crates/$(top)/out/version)
 # The crates of the longest chains, first those with the most to prove behind them: they begin first, and all others give way. More jobs than one take a third
 # to a half more processor time, so only those have them for which all else would wait.
 long := deb_relation number_sets deb_control deb_index sat_solve deb_health deb_groundwork deb_encode deb_verdict deb_causes deb_report work_draw debcheck $(top)
-wide := deb_relation deb_index deb_report work_draw
-last := debcheck $(top)
-jobs = $(if $(filter $(1),$(last)),$(lanes),$(if $(filter $(1),$(wide)),$$((($(lanes) + 2) / 2)),1))
+wide := deb_relation deb_report work_draw
+widest := deb_index debcheck $(top)
+jobs = $(if $(filter $(1),$(widest)),$(lanes),$(if $(filter $(1),$(wide)),$$((($(lanes) + 2) / 2)),1))
 
 .ONESHELL:
 .SHELLFLAGS := -euc
