@@ -21,7 +21,7 @@ use std::alloc::{AllocError, Global};
 use std::mem;
 
 /// Whether a set with the package at a place is seen to meet a part of the constraints, on the base set or on nothing. Questions that keep no
-/// constraint yet and leave some out have a witness of their own.
+/// constraint yet and leave some out have a witness of their own, on what the last set for the package stood on.
 fn is_seen_on(
     part: &Part<'_>,
     p: u32,
